@@ -1,0 +1,14 @@
+pub mod Cases
+pub mod Tests
+pub mod Sums
+pub mod Elections
+pub mod Answers
+pub mod Facts
+pub mod Fits
+pub mod Spending
+pub mod Stores
+pub mod Kept
+pub mod KeptByCalls
+pub mod Refused
+pub mod Runs
+pub mod Promises

@@ -1,0 +1,10 @@
+pub mod Numbers
+pub mod Tests
+pub mod Table
+pub mod Election
+pub mod Fit
+pub mod Sound
+pub mod Slot
+pub mod Call
+pub mod Cases
+pub mod Promises
