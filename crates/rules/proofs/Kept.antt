@@ -18,15 +18,24 @@ use Rattle.rules.specs.Election.{Who, nobody, place, Elected, goes-to, i
 use Rattle.rules.specs.Fit.{Job, due, demand, SumsFit, jobOf, jobsOf}
 use Rattle.rules.specs.Sound.{OpenInBounds, LiveInBounds, SoundPlace, closed, resting, busy, totals, Sound}
 use Rattle.rules.specs.Slot.{ended, given, served, unlessLate, idleMore, slot, slots}
+use Rattle.rules.specs.Bridge.{less, spend, SomeLeft}
 use Rattle.rules.proofs.Sums.{sum-ext, sum-fall}
 use Rattle.rules.proofs.Elections.{elect-ok}
 use Rattle.rules.proofs.Fits.{SumsAlways}
-use Rattle.rules.proofs.Spending.{less, spend, spend-it, Spend, kept, ends, fewer, spend-view, SomeLeft, some-kept, spent-by, earliest, earliest-keeps, sums-always}
+use Rattle.rules.proofs.Spending.{spend-it, Spend, kept, ends, fewer, spend-view, some-kept, spent-by, earliest, earliest-keeps, sums-always}
 use Rattle.rules.proofs.Stores.{Served, last, more, served-view, Late, gone-late, in-time, late-view, gave, gave-it, gave-other, is-other, slot-at, SlotKeeps, slot-keeps}
 
 pub elected-ok : (t : Table) → Elected (liveAt t) (rankAt t) placeCount (elected t)
 unfolding elected
 elected-ok t = elect-ok (liveAt t) (rankAt t) placeCount
+
+-- who is elected is live
+pub elected-live : (t : Table) (p : ℕ) → elected t ≡ place p → at t p .live ≡ 1
+elected-live t p i = go (elected t) i (elected-ok t)
+  where
+    go : (w : Who) → w ≡ place p → Elected (liveAt t) (rankAt t) placeCount w → at t p .live ≡ 1
+    go nobody i r = let z : _≡_ {A = ℕ} 0 1 = cc in absurd (omega arith)
+    go (place q) i (goes-to h v f) = let k : q ≡ p = cc in rw k at (eqb-true (at t q .live) 1 v)
 
 -- a live place of a sound table
 pub live-bounds : (now : ℕ) (x : Place) → SoundPlace now x → x .live ≡ 1 → OpenInBounds now x × LiveInBounds now x
@@ -82,24 +91,17 @@ module _ (policy now : ℕ) (x y z : Place) (known : (policy ≡ 1) ⊎ (policy 
 
 place-kept : (t : Table) → Sound t → (q : ℕ) → q < placeCount → (t .policy ≡ 1 → at (slot t) q .live ≡ 1 → t .now .0 + 1 < at (slot t) q .deadline .0) → SoundPlace (t .now .0 + 1) (at (slot t) q)
 place-kept t s q l first = elim (is-other (elected t) q) [
-  | yes i ↦ served-kept (t .policy) (t .now .0) (at t q) _ (at (slot t) q) (s .policy) first (s .places q l) e (its i (elected-ok t)) (ap (λ w. gave w q (at t q)) i ∙ gave-it q (at t q))
+  | yes i ↦ served-kept (t .policy) (t .now .0) (at t q) _ (at (slot t) q) (s .policy) first (s .places q l) e (elected-live t q i) (ap (λ w. gave w q (at t q)) i ∙ gave-it q (at t q))
   | no n ↦ unserved-kept (t .policy) (t .now .0) (at t q) _ (at (slot t) q) (s .policy) first (s .places q l) e (gave-other (elected t) q (at t q) n)
 ]
   where
     e : at (slot t) q ≡ unlessLate (t .policy) (t .now .0 + 1) (gave (elected t) q (at t q))
     e = slot-at t q (omega (arith, s .size))
 
-    its : elected t ≡ place q → Elected (liveAt t) (rankAt t) placeCount (elected t) → at t q .live ≡ 1
-    its i r = go (elected t) i r
-      where
-        go : (w : Who) → w ≡ place q → Elected (liveAt t) (rankAt t) placeCount w → at t q .live ≡ 1
-        go nobody i r = let z : _≡_ {A = ℕ} 0 1 = cc in absurd (omega arith)
-        go (place p) i (goes-to h v f) = let k : p ≡ q = cc in rw k at (eqb-true (at t p .live) 1 v)
-
 late-total : (policy now : ℕ) (x : Place) → unlessLate policy now x .total .0 ≡ x .total .0
 late-total policy now x = elim (late-view policy now x) [ gone-late p v d e ↦ rw e | in-time f e ↦ rw e ]
 
-served-total : (x : Place) → served x .total .0 ≡ suc (x .total .0)
+pub served-total : (x : Place) → served x .total .0 ≡ suc (x .total .0)
 served-total x = elim (served-view x) [ last a e ↦ rw e (omega arith) | more a e ↦ rw e (omega arith) ]
 
 pub total-at : (t : Table) (q : ℕ) → q < length (t .places) → (w : Who) → elected t ≡ w → at (slot t) q .total .0 ≡ gave w q (at t q) .total .0

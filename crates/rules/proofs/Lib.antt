@@ -12,3 +12,11 @@ pub mod KeptByCalls
 pub mod Refused
 pub mod Runs
 pub mod Promises
+pub mod Histories
+pub mod Ledgers
+pub mod Jobs
+pub mod Counts
+pub mod Gaps
+pub mod Starts
+pub mod Demands
+pub mod Bridge

@@ -3,22 +3,23 @@
 use mathlib.Core.Path.{_≡_, refl, sym, ap, _∙_, subst}
 use mathlib.Core.Logic.{_⊎_, inl, inr, ⊎-elim, _↔_}
 use mathlib.Core.Bool.{Bool, true, false, cond, _&&_, _||_, not, true≢false, false≢true}
-use mathlib.Core.List.{List, [], _∷_}
+use mathlib.Core.List.{List, [], _∷_, _++_}
 use Prim.Native.Nat.{ℕ, _+_, _≤_, _<_}
 use native.Mathlib.Omega.{arith}
 use native.Mathlib.Decide.{decLt}
 use lib.Dec.{leb, ltb, eqb}
 use lib.ListN.{length, drop, length-drop}
-use borrow.Author.Tests.{leb-true, leb-false, ltb-true, ltb-false, eqb-true, eqb-false, eq-eqb, not-false}
+use borrow.Author.Tests.{leb-true, leb-false, ltb-true, ltb-false, eqb-true, eqb-false, eq-eqb, not-true, not-false}
 use Rattle.rules.specs.Numbers.{placeCount, lastTick, longestSpan, lastLevel, mostSlots, earliestDeadline, fixedPriority}
 use Rattle.rules.specs.Table.{Table, at}
 use Rattle.rules.specs.Fit.{Plan, Fits, jobsOf, fitsBySums}
 use Rattle.rules.specs.Sound.{Sound, sound, knownPolicy}
 use Rattle.rules.specs.Call.{Call, Open, Close, Arrive, Depart, Elect, Slot, Advance, noFit, withJob, arrived, judge, checks, refusal, called}
+use Rattle.rules.specs.Bridge.{SomeLeft}
 use Rattle.rules.specs.Promises.{BadReserve, BadJob, SomePlanServes, Refusals, FirstIs, EachRefusalExactlyWhenThePaperSays}
 use Rattle.rules.proofs.Tests.{clash, and-left, and-right, and-off, some-fail}
 use Rattle.rules.proofs.Fits.{SumsAlways}
-use Rattle.rules.proofs.Spending.{SomeLeft, fits-iff}
+use Rattle.rules.proofs.Spending.{fits-iff}
 use Rattle.rules.proofs.Facts.{sound-holds, holds-sound, sums-iff}
 use Rattle.rules.proofs.Answers.{called-done, called-refused}
 use Rattle.rules.proofs.Stores.{Put, there, other, put-view}
@@ -134,3 +135,35 @@ module _ (t : Table) where
   rows Slot = row unsound λ e1. row (reflects-lt lastTick (t .now .0 + 1)) λ e8. end
   rows (Advance n bytes start) =
       row unsound λ e1. row (reflects-lt mostSlots n) λ e5. row (reflects-lt lastTick (t .now .0 + n)) λ e8. row (reflects-room n bytes start) λ e11. end
+
+-- a number that a list of refusals lacks is not given by it
+abbrev pub lacks : ℕ → List (ℕ × Type 0) → Bool
+lacks k [] = true
+lacks k (r ∷ rs) = not (eqb (r .0) k) && lacks k rs
+
+not-first : (k : ℕ) (rs : List (ℕ × Type 0)) → lacks k rs ≡ true → ¬ (k ≡ 0) → ¬ FirstIs k rs
+not-first k [] a z f = z f
+not-first k (r ∷ rs) a z f =
+    ⊎-elim (λ h. eqb-false (r .0) k (not-true _ (and-left (not (eqb (r .0) k)) _ a)) (sym (h .1))) (λ h. not-first k rs (and-right (not (eqb (r .0) k)) _ a) z (h .1)) f
+
+-- what is not given by the rows before is given by the last one
+pub last-row : (k : ℕ) (rs : List (ℕ × Type 0)) (last : ℕ × Type 0) → lacks k rs ≡ true → FirstIs k (rs ++ (last ∷ [])) → FirstIs k (last ∷ [])
+last-row k [] last a f = f
+last-row k (r ∷ rs) last a f =
+    ⊎-elim (λ h. absurd (eqb-false (r .0) k (not-true _ (and-left (not (eqb (r .0) k)) _ a)) (sym (h .1)))) (λ h. last-row k rs last (and-right (not (eqb (r .0) k)) _ a) (h .1)) f
+
+-- refusal 1 is never given to a sound table
+pub sound-not-one : (t : Table) (c : Call) → Sound t → ¬ FirstIs 1 (Refusals t c)
+sound-not-one t c s f = go c f
+  where
+    only-first : (rs : List (ℕ × Type 0)) → lacks 1 rs ≡ true → ¬ FirstIs 1 ((1, ¬ Sound t) ∷ rs)
+    only-first rs a f = ⊎-elim (λ h. h .0 s) (λ h. not-first 1 rs a (omega arith) (h .1)) f
+
+    go : (c : Call) → ¬ FirstIs 1 (Refusals t c)
+    go (Open p level cap gap) = only-first (drop 1 (Refusals t (Open p level cap gap))) refl
+    go (Close p) = only-first (drop 1 (Refusals t (Close p))) refl
+    go (Arrive p b d) = only-first (drop 1 (Refusals t (Arrive p b d))) refl
+    go (Depart p) = only-first (drop 1 (Refusals t (Depart p))) refl
+    go Elect = only-first [] refl
+    go Slot = only-first (drop 1 (Refusals t Slot)) refl
+    go (Advance n bytes start) = only-first (drop 1 (Refusals t (Advance n bytes start))) refl

@@ -10,25 +10,11 @@ use borrow.Author.Tests.{eqb-true, le-leb, lt-leb, eq-eqb, ne-eqb}
 use Rattle.rules.specs.Tests.{sum}
 use Rattle.rules.specs.Election.{Who, nobody, place, Elected, goes-to, idles, elect}
 use Rattle.rules.specs.Fit.{Job, Plan, isFor, slotsFor, Fits, due, demand, SumsFit}
+use Rattle.rules.specs.Bridge.{gone, less, spend, SomeLeft}
 use Rattle.rules.proofs.Tests.{and-left, and-right}
 use Rattle.rules.proofs.Sums.{sum-ext, sum-zero, sum-fall, term-le, find}
 use Rattle.rules.proofs.Elections.{least, elect-ok}
 use Rattle.rules.proofs.Fits.{SumsAlways, due-in, due-gone, due-later, Due, in-time, not-yet, due-view, for-it, for-other, slots-ext, necessary}
-
-abbrev pub gone : Job
-gone = record { live = false; remaining = 0; deadline = 0 }
-
--- one slot less; gone where that was the last
-unfoldable pub less : Job → Job
-less j = cond (leb (j .remaining) 1) gone (record { live = j .live; remaining = j .remaining - 1; deadline = j .deadline })
-
-unfoldable pub spend : Who → (ℕ → Job) → ℕ → Job
-spend nobody jobs q = jobs q
-spend (place p) jobs q = cond (eqb q p) (less (jobs q)) (jobs q)
-
--- each live job has a slot left
-unfoldable pub SomeLeft : (ℕ → Job) → ℕ → Type 0
-SomeLeft jobs m = (p : ℕ) → p < m → jobs p .live ≡ true → 1 ≤ jobs p .remaining
 
 pub spend-it : (jobs : ℕ → Job) (p : ℕ) → spend (place p) jobs p ≡ less (jobs p)
 unfolding spend

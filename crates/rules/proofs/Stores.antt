@@ -17,6 +17,12 @@ use Rattle.rules.specs.Election.{Who, nobody, place, elected}
 use Rattle.rules.specs.Slot.{ended, given, served, unlessLate, serve, slot}
 use Rattle.rules.proofs.Tests.{clash, pick-yes, pick-no}
 
+pub put-it : (t : Table) (p : ℕ) (x : Place) → p < length (t .places) → at (put t p x) p ≡ x
+put-it t p x h = getD-set-same (t .places) p x zeroPlace h
+
+pub put-other : (t : Table) (q : ℕ) (x : Place) (p : ℕ) → q ≢ p → at (put t q x) p ≡ at t p
+put-other t q x p n = getD-set-other (t .places) q p x zeroPlace (λ e. n (sym e))
+
 -- what a store at p makes of place q
 pub data Put (t : Table) (p : ℕ) (x : Place) (q : ℕ) : Type 0 where
   there : q ≡ p → at (put t p x) q ≡ x → Put t p x q
@@ -24,8 +30,8 @@ pub data Put (t : Table) (p : ℕ) (x : Place) (q : ℕ) : Type 0 where
 
 pub put-view : (t : Table) (p : ℕ) (x : Place) (q : ℕ) → p < length (t .places) → Put t p x q
 put-view t p x q h = elim (ℕ-discrete q p) [
-  | yes i ↦ there i (rw i (getD-set-same (t .places) p x zeroPlace h))
-  | no n ↦ other n (getD-set-other (t .places) p q x zeroPlace n)
+  | yes i ↦ there i (rw i (put-it t p x h))
+  | no n ↦ other n (put-other t p x q (λ e. n (sym e)))
 ]
 
 pub data Served (x : Place) : Type 0 where
@@ -108,3 +114,13 @@ slot-keeps t = record {
   clock = refl;
   size = length-map (serve (elected t) (t .places)) (unlessLate (t .policy) (t .now .0 + 1)) ∙ serve-size (elected t) (t .places);
 }
+
+-- a slot leaves every figure of a place that neither a slot given nor a job's end changes
+pub slot-leaves : (f : Place → ℕ) → ((x : Place) → f (given x) ≡ f x) → ((e : ℕ) (x : Place) → f (ended e x) ≡ f x) → (t : Table) (p : ℕ) → p < length (t .places) → f (at (slot t) p) ≡ f (at t p)
+slot-leaves f g e t p h = ap f (slot-at t p h) ∙ in-step-four (gave (elected t) p (at t p)) ∙ elim (is-other (elected t) p) [
+  | yes i ↦ rw (i, gave-it p (at t p)) (elim (served-view (at t p)) [ last a q ↦ rw q (e spent (given (at t p)) ∙ g (at t p)) | more a q ↦ rw q (g (at t p)) ])
+  | no n ↦ rw (gave-other (elected t) p (at t p) n)
+]
+  where
+    in-step-four : (x : Place) → f (unlessLate (t .policy) (t .now .0 + 1) x) ≡ f x
+    in-step-four x = elim (late-view (t .policy) (t .now .0 + 1) x) [ gone-late a b c q ↦ rw q (e late x) | in-time a q ↦ rw q ]

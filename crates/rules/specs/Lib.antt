@@ -7,4 +7,7 @@ pub mod Sound
 pub mod Slot
 pub mod Call
 pub mod Cases
+pub mod History
 pub mod Promises
+pub mod Demands
+pub mod Bridge
