@@ -18,7 +18,7 @@ use Rattle.rules.specs.Election.{Who, nobody, place, Elected, goes-to, i
 use Rattle.rules.specs.Fit.{Job, due, demand, SumsFit, jobOf, jobsOf}
 use Rattle.rules.specs.Sound.{OpenInBounds, LiveInBounds, SoundPlace, closed, resting, busy, totals, Sound}
 use Rattle.rules.specs.Slot.{ended, given, served, unlessLate, idleMore, slot, slots}
-use Rattle.rules.specs.Bridge.{less, spend, SomeLeft}
+use Rattle.rules.specs.Source000.{less, spend, SomeLeft}
 use Rattle.rules.proofs.Sums.{sum-ext, sum-fall}
 use Rattle.rules.proofs.Elections.{elect-ok}
 use Rattle.rules.proofs.Fits.{SumsAlways}

@@ -19,4 +19,4 @@ pub mod Counts
 pub mod Gaps
 pub mod Starts
 pub mod Demands
-pub mod Bridge
+pub mod Source000

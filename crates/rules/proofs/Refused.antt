@@ -15,7 +15,7 @@ use Rattle.rules.specs.Table.{Table, at}
 use Rattle.rules.specs.Fit.{Plan, Fits, jobsOf, fitsBySums}
 use Rattle.rules.specs.Sound.{Sound, sound, knownPolicy}
 use Rattle.rules.specs.Call.{Call, Open, Close, Arrive, Depart, Elect, Slot, Advance, noFit, withJob, arrived, judge, checks, refusal, called}
-use Rattle.rules.specs.Bridge.{SomeLeft}
+use Rattle.rules.specs.Source000.{SomeLeft}
 use Rattle.rules.specs.Promises.{BadReserve, BadJob, SomePlanServes, Refusals, FirstIs, EachRefusalExactlyWhenThePaperSays}
 use Rattle.rules.proofs.Tests.{clash, and-left, and-right, and-off, some-fail}
 use Rattle.rules.proofs.Fits.{SumsAlways}

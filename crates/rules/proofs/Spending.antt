@@ -10,7 +10,7 @@ use borrow.Author.Tests.{eqb-true, le-leb, lt-leb, eq-eqb, ne-eqb}
 use Rattle.rules.specs.Tests.{sum}
 use Rattle.rules.specs.Election.{Who, nobody, place, Elected, goes-to, idles, elect}
 use Rattle.rules.specs.Fit.{Job, Plan, isFor, slotsFor, Fits, due, demand, SumsFit}
-use Rattle.rules.specs.Bridge.{gone, less, spend, SomeLeft}
+use Rattle.rules.specs.Source000.{gone, less, spend, SomeLeft}
 use Rattle.rules.proofs.Tests.{and-left, and-right}
 use Rattle.rules.proofs.Sums.{sum-ext, sum-zero, sum-fall, term-le, find}
 use Rattle.rules.proofs.Elections.{least, elect-ok}

@@ -10,4 +10,4 @@ pub mod Cases
 pub mod History
 pub mod Promises
 pub mod Demands
-pub mod Bridge
+pub mod Source000

@@ -61,6 +61,7 @@ pub const SPENT: u64 = 2;
 pub const LATE: u64 = 3;
 
 // A place: its reserve, its job, and what it was given. Every pattern of numbers is a place.
+#[repr(C)]
 pub struct Place {
     // 1 open, 0 closed
     pub opened: u64,

@@ -8,8 +8,10 @@
 
 ghost use Rattle.time.specs.Kinds.{Later, Between, Longer, Less};
 
+#[repr(C)]
 pub struct Instant(pub u64);
 
+#[repr(C)]
 pub struct Span(pub u64);
 
 // The largest number of a word.

@@ -1,4 +1,4 @@
--- The claims of specs/Bridge.antt, each under its name in small letters: the policy keeps the sums small, so a live deadline is ahead.
+-- The claims of specs/Source000.antt, each under its name in small letters: the policy keeps the sums small, so a live deadline is ahead.
 use mathlib.Core.Path.{_≡_, refl, sym, ap, _∙_, subst}
 use mathlib.Core.Bool.{true}
 use mathlib.Core.List.{List, _++_}
@@ -12,7 +12,7 @@ use Rattle.rules.specs.Fit.{Job, slotsFor, Fits, jobsOf}
 use Rattle.rules.specs.Sound.{Sound}
 use Rattle.rules.specs.Call.{Call}
 use Rattle.rules.specs.History.{Happening, history, ticks, ledger}
-use Rattle.rules.specs.Bridge.{SomeLeft, spend, EdfPolicyFor, for-none, for-one-more, ASchedulableSetIsNeverOverdue, jobIn, TheJobsTakenAreSchedulable, NoJobTakenIsEverOverdue}
+use Rattle.rules.specs.Source000.{SomeLeft, spend, EdfPolicyFor, for-none, for-one-more, ASchedulableSetIsNeverOverdue, jobIn, TheJobsTakenAreSchedulable, NoJobTakenIsEverOverdue}
 use Rattle.rules.proofs.Fits.{SumsAlways, necessary}
 use Rattle.rules.proofs.Spending.{sums-kept, some-kept, spent-by, fits-iff}
 use Rattle.rules.proofs.Kept.{some-left, live-bounds}

@@ -1,0 +1,2 @@
+pub mod Dress
+pub mod Leaves
