@@ -19,4 +19,5 @@ pub mod Counts
 pub mod Gaps
 pub mod Starts
 pub mod Demands
+pub mod Chronicles
 pub mod Source000

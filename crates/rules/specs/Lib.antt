@@ -10,4 +10,5 @@ pub mod Cases
 pub mod History
 pub mod Promises
 pub mod Demands
+pub mod Chronicles
 pub mod Source000
