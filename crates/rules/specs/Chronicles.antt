@@ -40,12 +40,12 @@ abbrev pub amongRivals : Chronicle
 amongRivals = record {
   policy = 1;
   calls =
-    Open 0 0 2 4 ∷ Open 1 0 4 20 ∷ Open 2 0 2 5 ∷ Arrive 1 3 9 ∷ Arrive 0 2 9 ∷ Arrive 2 2 1 ∷ Arrive 2 1 3 ∷ slotsInto 2 ∷ Depart 1 ∷ Slot ∷ Slot ∷ Arrive 0 1 8 ∷ slotsInto 5 ∷ [];
+      Open 0 0 2 4 ∷ Open 1 0 4 20 ∷ Open 2 0 2 5 ∷ Arrive 1 3 9 ∷ Arrive 0 2 9 ∷ Arrive 2 2 1 ∷ Arrive 2 1 3 ∷ slotsInto 2 ∷ Depart 1 ∷ Slot ∷ Slot ∷ Arrive 0 1 8 ∷ slotsInto 5 ∷ [];
   answers = 0 ∷ 0 ∷ 0 ∷ 0 ∷ 0 ∷ 9 ∷ 0 ∷ 0 ∷ 0 ∷ 0 ∷ 0 ∷ 0 ∷ 0 ∷ [];
   before = Did (Opened 0 0 2 4) ∷ Did (Opened 1 0 4 20) ∷ Did (Opened 2 0 2 5) ∷ Did (Arrived 1 3 9) ∷ [];
   arrival = Did (Arrived 0 2 9);
   after =
-    Did (Arrived 2 1 3) ∷ Gave 2 ∷ Gave 0 ∷ Did (Departed 1) ∷ Gave 0 ∷ Gave 255 ∷ Did (Arrived 0 1 8) ∷ Gave 0 ∷ Gave 255 ∷ Gave 255 ∷ Gave 255 ∷ Gave 255 ∷ [];
+      Did (Arrived 2 1 3) ∷ Gave 2 ∷ Gave 0 ∷ Did (Departed 1) ∷ Gave 0 ∷ Gave 255 ∷ Did (Arrived 0 1 8) ∷ Gave 0 ∷ Gave 255 ∷ Gave 255 ∷ Gave 255 ∷ Gave 255 ∷ [];
 }
 
 -- Demand 2. A gap of three is kept over a close and an open: inside it both an arrival and a close are refused with 7.
