@@ -1,15 +1,15 @@
 -- The chronicles happen by computation, and so do their premises; that nobody outranks a job is tried at each slot.
-use mathlib.Core.Path.{_≡_, refl, sym, ap, _∙_, subst}
-use mathlib.Core.Logic.{_⊎_, inl, inr, ⊎-elim}
-use mathlib.Core.Bool.{Bool, true, false, cond, _&&_, _||_, not}
+use mathlib.Core.Path.{_≡_, refl, ap, _∙_, subst}
+use mathlib.Core.Logic.{⊎-elim}
+use mathlib.Core.Bool.{Bool, true, false, _&&_, _||_, not}
 use mathlib.Core.List.{List, [], _∷_, _++_, append-nil, append-assoc}
-use Prim.Native.Nat.{ℕ, _+_, _<_}
+use Prim.Native.Nat.{ℕ, _<_}
 use native.Mathlib.Omega.{arith}
 use lib.Dec.{ltb, eqb}
 use borrow.Author.Tests.{eq-eqb, lt-ltb}
 use Rattle.rules.specs.Numbers.{placeCount}
 use Rattle.rules.specs.Tests.{sum, each}
-use Rattle.rules.specs.Election.{number, RanksBefore, better, elect, elected}
+use Rattle.rules.specs.Election.{number, better, elect, elected}
 use Rattle.rules.specs.Fit.{due, demand, sumsFit, fitsBySums}
 use Rattle.rules.specs.Sound.{soundPlace, sound}
 use Rattle.rules.specs.Slot.{served, unlessLate, serve, idleMore, slot, slots, named}

@@ -1,17 +1,14 @@
 -- Totals and idle are counted from the slots: each slot adds one to the place that it names, or to idle.
-use mathlib.Core.Path.{_≡_, refl, sym, ap, _∙_}
-use mathlib.Core.Logic.{_≢_}
+use mathlib.Core.Path.{_≡_, refl, ap}
 use mathlib.Core.List.{List, [], _∷_}
-use mathlib.Core.Bool.{true, false, cond}
-use Prim.Native.Nat.{ℕ, suc, _+_, _<_}
+use Prim.Native.Nat.{ℕ, _+_, _<_}
 use native.Mathlib.Omega.{arith}
-use lib.Dec.{eqb}
 use lib.ListN.{length}
 use native.Mathlib.Decide.{ℕ-discrete}
-use borrow.Author.Tests.{eq-eqb, ne-eqb}
+use borrow.Author.Tests.{ne-eqb}
 use Rattle.rules.specs.Numbers.{placeCount, idleByte}
 use Rattle.rules.specs.Table.{Table, at}
-use Rattle.rules.specs.Election.{Who, nobody, place, number, Elected, goes-to, idles, liveAt, rankAt, elected}
+use Rattle.rules.specs.Election.{Who, nobody, place, number, Elected, goes-to, liveAt, rankAt, elected}
 use Rattle.rules.specs.Sound.{Sound}
 use Rattle.rules.specs.Slot.{idleMore, slot}
 use Rattle.rules.specs.Call.{effect}

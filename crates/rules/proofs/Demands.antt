@@ -1,32 +1,31 @@
 -- The demands of specs/Demands.antt, each under its name in small letters.
 use mathlib.Core.Path.{_≡_, refl, sym, ap, ap₂, _∙_, subst}
-use mathlib.Core.Logic.{_⊎_, inl, inr, ⊎-elim, _↔_}
-use mathlib.Core.Bool.{Bool, true, false, cond, not, true≢false, false≢true}
+use mathlib.Core.Logic.{inl, inr, ⊎-elim, _↔_}
+use mathlib.Core.Bool.{Bool, true, false}
 use mathlib.Core.List.{List, [], _∷_, _++_, append-assoc}
-use Prim.Native.Nat.{ℕ, zero, suc, _+_, _≤_, _<_}
+use Prim.Native.Nat.{ℕ, _+_, _≤_, _<_}
 use native.Mathlib.Omega.{arith}
 use lib.Dec.{eqb, ltb}
-use lib.ListN.{take, getD-replicate}
-use borrow.Author.Tests.{eq-eqb, eqb-true, not-true, ltb-false}
+use lib.ListN.{take}
+use borrow.Author.Tests.{eq-eqb, eqb-true, ltb-false}
 use Rattle.rules.specs.declared.Place.{Place}
 use Rattle.rules.specs.Numbers.{placeCount, idleByte, longestSpan}
-use Rattle.rules.specs.Tests.{sum}
-use Rattle.rules.specs.Table.{Table, zeroPlace, freshTable, zeroTable, at}
-use Rattle.rules.specs.Election.{Who, nobody, place, number, RanksBefore, Elected, goes-to, idles, liveAt, rankAt, elected}
-use Rattle.rules.specs.Fit.{Plan, Serves}
-use Rattle.rules.specs.Sound.{Sound, knownPolicy}
-use Rattle.rules.specs.Call.{Call, Arrive, withJob, checks, refusal, effect, called, setUp}
-use Rattle.rules.specs.History.{Deed, Arrived, Happening, Did, Gave, history, historyFrom, tableAfter, ticks, slotsNaming, until, jobSlots, withdrawn, undisturbed, reserve, placeOf, ledgerFrom, ledger}
+use Rattle.rules.specs.Table.{Table, at}
+use Rattle.rules.specs.Election.{Who, nobody, place, RanksBefore, Elected, goes-to, idles, liveAt, rankAt, elected}
+use Rattle.rules.specs.Fit.{Serves}
+use Rattle.rules.specs.Sound.{Sound}
+use Rattle.rules.specs.Call.{Call, Arrive, withJob, checks, refusal, effect, called}
+use Rattle.rules.specs.History.{Arrived, Happening, Did, Gave, history, tableAfter, ticks, slotsNaming, until, jobSlots, withdrawn, reserve, placeOf, ledger}
 use Rattle.rules.specs.Promises.{SomePlanServes, Refusals, FirstIs}
-use Rattle.rules.specs.Demands.{SetUp, HistoriesAreSound, figuresOf, TheTableHoldsWhatTheHistorySays, rankIn, EverySlotGoesWhereTheRuleSendsIt, NoJobRunsPastItsSlots, NoSlotWithoutAJob, NoReserveStartsTwiceWithinItsGap, SlotsAddUpToTheClock, TotalsAreCounted, ATakenJobIsServed, ATakenJobEndsSpent, NoJobEndsLateByDeadline, SomePlanServesAll, TurnedAwayExactlyWhenNoPlanServesAll, HowAJobEnds, NoneOutranks, AnUnoutrankedJobIsServed}
+use Rattle.rules.specs.Demands.{SetUp, HistoriesAreSound, figuresOf, TheTableHoldsWhatTheHistorySays, rankIn, EverySlotGoesWhereTheRuleSendsIt, NoJobRunsPastItsSlots, NoSlotWithoutAJob, NoReserveStartsTwiceWithinItsGap, SlotsAddUpToTheClock, TotalsAreCounted, ATakenJobIsServed, ATakenJobEndsSpent, NoJobEndsLateByDeadline, SomePlanServesAll, TurnedAwayExactlyWhenNoPlanServesAll, HowAJobEnds, AnUnoutrankedJobIsServed}
 use Rattle.rules.proofs.Tests.{clash, some-fail}
 use Rattle.rules.proofs.Sums.{sum-ext}
 use Rattle.rules.proofs.Answers.{passed}
 use Rattle.rules.proofs.Stores.{put-it}
 use Rattle.rules.proofs.Kept.{elected-ok, live-bounds}
-use Rattle.rules.proofs.Promises.{each-refusal-exactly-when-the-paper-says, set-up-gives-sound}
+use Rattle.rules.proofs.Promises.{each-refusal-exactly-when-the-paper-says}
 use Rattle.rules.proofs.Refused.{lacks, last-row, sound-not-one}
-use Rattle.rules.proofs.Histories.{callOf, Allowed, next, AllAllowed, after, after-join, allowed-join, allowed-split, next-sound, after-sound, after-policy, after-clock, deed-clock, next-policy, history-allowed}
+use Rattle.rules.proofs.Histories.{callOf, AllAllowed, after, after-join, allowed-join, allowed-split, next-sound, after-sound, after-policy, after-clock, deed-clock, next-policy}
 use Rattle.rules.proofs.Ledgers.{deed-inside, ledger-in-time}
 use Rattle.rules.proofs.Starts.{one-ok, two-ok, fresh-at, start, start-is, start-sound, ledger-is, parts, now-is, table-is, table-sound}
 use Rattle.rules.proofs.Jobs.{off-row, job-bounded, until-fewer, until-allowed, HadAll, job-served, Fate, still-live, has-left, was-spent, was-late, job-fate, unoutranked-served}

@@ -1,20 +1,18 @@
 -- The test of soundness says what the clauses say, and nothing else.
-use mathlib.Core.Path.{_≡_, refl, sym, ap, _∙_, subst}
+use mathlib.Core.Path.{_≡_, refl, sym, _∙_, subst}
 use mathlib.Core.Logic.{_⊎_, inl, inr, _↔_}
 use mathlib.Core.Bool.{Bool, true, false, cond, _&&_, _||_, not}
-use mathlib.Core.List.{List, [], _∷_}
-use Prim.Native.Nat.{ℕ, _+_, _-_, _≤_, _<_}
+use Prim.Native.Nat.{ℕ, _-_, _<_}
 use native.Mathlib.Omega.{arith}
 use native.Mathlib.Decide.{ℕ-discrete}
-use lib.Dec.{leb, ltb, eqb}
+use lib.Dec.{leb, eqb}
 use borrow.Author.Tests.{leb-true, eqb-true, le-leb, eq-eqb, ne-eqb}
 use Rattle.rules.specs.declared.Place.{Place}
 use Rattle.rules.specs.Numbers.{placeCount}
-use Rattle.rules.specs.Tests.{each}
 use Rattle.rules.specs.Table.{Table, at}
 use Rattle.rules.specs.Fit.{Job, demand, SumsFit, sumsFit, jobsOf, fitsBySums}
-use Rattle.rules.specs.Sound.{SoundPlace, closed, resting, busy, Sound, closedClauses, openClauses, liveClauses, noJobClauses, closedIsZero, openInBounds, liveInBounds, noJobIsZero, soundPlace, knownPolicy, soundClauses, sound}
-use Rattle.rules.proofs.Tests.{tests, clash, pick-yes, pick-no, and-left, and-right, and-both, every-hold, hold-every}
+use Rattle.rules.specs.Sound.{SoundPlace, closed, resting, busy, Sound, closedClauses, openClauses, liveClauses, noJobClauses, openInBounds, liveInBounds, noJobIsZero, soundPlace, knownPolicy, soundClauses, sound}
+use Rattle.rules.proofs.Tests.{tests, pick-yes, pick-no, and-left, and-right, and-both, every-hold, hold-every}
 use Rattle.rules.proofs.Sums.{each-true, each-all}
 
 place-holds : (now : ℕ) (p : Place) → soundPlace now p ≡ true → SoundPlace now p

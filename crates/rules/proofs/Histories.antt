@@ -1,26 +1,22 @@
 -- A history is a row of happenings, each of which the rules allow at the table where it stands; what is shown of one is shown of all.
-use mathlib.Core.Path.{_≡_, refl, sym, ap, _∙_, subst}
-use mathlib.Core.Logic.{_⊎_, inl, inr, ⊎-elim, _≢_}
-use mathlib.Core.Bool.{Bool, true, false, cond, _&&_}
+use mathlib.Core.Path.{_≡_, refl, ap, _∙_, subst}
 use mathlib.Core.List.{List, [], _∷_, _++_, map}
-use Prim.Native.Nat.{ℕ, zero, suc, _+_, _-_, _≤_, _<_}
+use Prim.Native.Nat.{ℕ, zero, suc, _+_, _≤_, _<_}
 use native.Mathlib.Omega.{arith}
 use native.Mathlib.Decide.{ℕ-discrete}
-use lib.Dec.{eqb}
 use lib.ListN.{length, take, drop, length-take}
 use lib.Seq.{take-at, drop-at}
-use borrow.Author.Tests.{eq-eqb, ne-eqb, eqb-true, ltb-false, not-false}
-use Rattle.rules.specs.Numbers.{placeCount, lastTick}
+use borrow.Author.Tests.{ne-eqb, ltb-false}
+use Rattle.rules.specs.Numbers.{lastTick}
 use Rattle.rules.specs.Table.{Table}
 use Rattle.rules.specs.Election.{number, elected}
 use Rattle.rules.specs.Sound.{Sound}
 use Rattle.rules.specs.Slot.{slot, slots, named}
 use Rattle.rules.specs.Call.{Call, Open, Close, Arrive, Depart, Elect, Slot, Advance, checks, refusal, effect, namedBy, written, done, called}
 use Rattle.rules.specs.History.{Deed, Opened, Closed, Arrived, Departed, Happening, Did, Gave, did, happened, historyFrom, tableFrom, ticks}
-use Rattle.rules.proofs.Facts.{sound-holds}
 use Rattle.rules.proofs.Answers.{called-done, called-refused, passed}
 use Rattle.rules.proofs.Stores.{slot-keeps}
-use Rattle.rules.proofs.Kept.{slot-sound, slots-clock}
+use Rattle.rules.proofs.Kept.{slot-sound}
 use Rattle.rules.proofs.KeptByCalls.{call-sound}
 use Rattle.rules.proofs.Runs.{named-length}
 

@@ -1,28 +1,27 @@
 -- The course of one job through a history: what each happening can do to it, and what that comes to until its deadline.
 use mathlib.Core.Path.{_≡_, refl, sym, ap, _∙_, subst}
-use mathlib.Core.Logic.{_⊎_, inl, inr, ⊎-elim, _≢_, _↔_}
-use mathlib.Core.Bool.{Bool, true, false, cond, _&&_, _||_, true≢false, false≢true}
+use mathlib.Core.Logic.{_≢_}
+use mathlib.Core.Bool.{Bool, true, false, cond, _||_, true≢false, false≢true}
 use mathlib.Core.List.{List, [], _∷_, _++_}
-use Prim.Native.Nat.{ℕ, zero, suc, _+_, _-_, _≤_, _<_}
+use Prim.Native.Nat.{ℕ, zero, suc, _+_, _≤_, _<_}
 use native.Mathlib.Omega.{arith}
-use native.Mathlib.Decide.{ℕ-discrete, decLe}
-use lib.Dec.{leb, eqb}
-use lib.ListN.{length}
+use native.Mathlib.Decide.{ℕ-discrete}
+use lib.Dec.{eqb}
 use borrow.Author.Tests.{eq-eqb, ne-eqb, eqb-true, eqb-false, not-false}
 use Rattle.rules.specs.declared.Place.{Place}
 use Rattle.rules.specs.Numbers.{placeCount}
-use Rattle.rules.specs.Table.{Table, isLive, at}
+use Rattle.rules.specs.Table.{Table, at}
 use Rattle.rules.specs.Election.{place, number, RanksBefore, goes-to, liveAt, rankAt, elected}
-use Rattle.rules.specs.Sound.{Sound, SoundPlace}
-use Rattle.rules.specs.Slot.{ended, given, served, unlessLate, slot}
+use Rattle.rules.specs.Sound.{Sound}
+use Rattle.rules.specs.Slot.{ended, given, unlessLate, slot}
 use Rattle.rules.specs.Call.{checks, refusal, effect}
 use Rattle.rules.specs.History.{Deed, Opened, Closed, Arrived, Departed, Happening, Did, Gave, isIts, ticks, until, arrivesAt, departsFrom, closes, jobSlots, withdrawn, undisturbed, placeOf}
-use Rattle.rules.proofs.Tests.{clash, or-left}
+use Rattle.rules.proofs.Tests.{or-left}
 use Rattle.rules.proofs.Elections.{elected-unique}
 use Rattle.rules.proofs.Answers.{passed}
-use Rattle.rules.proofs.Stores.{put-it, Served, last, more, served-view, Late, gone-late, in-time, late-view, gave, gave-it, gave-other, is-other, slot-at, slot-keeps, slot-leaves}
+use Rattle.rules.proofs.Stores.{put-it, last, more, served-view, gone-late, in-time, late-view, gave, gave-it, gave-other, is-other, slot-at, slot-keeps, slot-leaves}
 use Rattle.rules.proofs.Kept.{elected-ok, elected-live, live-bounds, slot-sound}
-use Rattle.rules.proofs.Histories.{callOf, Allowed, next, AllAllowed, after, allowed-split, next-policy, deed-clock, deed-sound}
+use Rattle.rules.proofs.Histories.{callOf, next, AllAllowed, after, allowed-split, next-policy, deed-clock, deed-sound}
 use Rattle.rules.proofs.Ledgers.{names-it, names-other, deed-inside, deed-other}
 
 -- What a slot does to the live job of p. k is 1 where it is p's slot.

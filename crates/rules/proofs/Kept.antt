@@ -1,29 +1,25 @@
 -- A slot hands back a sound table where it was given one: each place stays sound, one total or idle grows with the clock, and under
 -- policy 1 the sums are kept.
 use mathlib.Core.Path.{_≡_, refl, sym, ap, _∙_, subst}
-use mathlib.Core.Logic.{_⊎_, inl, inr, ⊎-elim, _≢_}
-use mathlib.Core.Bool.{Bool, true, false, cond, true≢false, false≢true}
-use Prim.Native.Nat.{ℕ, zero, suc, _+_, _-_, _≤_, _<_}
+use mathlib.Core.Logic.{_⊎_, ⊎-elim}
+use Prim.Native.Nat.{ℕ, zero, suc, _+_, _≤_, _<_}
 use native.Mathlib.Omega.{arith}
-use native.Mathlib.Numerals.{add-one}
-use native.Mathlib.Decide.{ℕ-discrete, decLe}
-use lib.Dec.{leb, eqb}
+use native.Mathlib.Decide.{decLe}
 use lib.ListN.{length}
-use borrow.Author.Tests.{le-leb, lt-leb, eq-eqb, ne-eqb, eqb-true}
+use borrow.Author.Tests.{le-leb, lt-leb, eq-eqb, eqb-true}
 use Rattle.rules.specs.declared.Place.{Place}
 use Rattle.rules.specs.Numbers.{placeCount, lastTick, spent, late}
-use Rattle.rules.specs.Tests.{sum}
-use Rattle.rules.specs.Table.{Table, isLive, at}
-use Rattle.rules.specs.Election.{Who, nobody, place, Elected, goes-to, idles, liveAt, rankAt, elected}
-use Rattle.rules.specs.Fit.{Job, due, demand, SumsFit, jobOf, jobsOf}
+use Rattle.rules.specs.Table.{Table, at}
+use Rattle.rules.specs.Election.{Who, nobody, place, Elected, goes-to, liveAt, rankAt, elected}
+use Rattle.rules.specs.Fit.{due, demand, SumsFit, jobOf, jobsOf}
 use Rattle.rules.specs.Sound.{OpenInBounds, LiveInBounds, SoundPlace, closed, resting, busy, totals, Sound}
 use Rattle.rules.specs.Slot.{ended, given, served, unlessLate, idleMore, slot, slots}
 use Rattle.rules.specs.Source000.{less, spend, SomeLeft}
 use Rattle.rules.proofs.Sums.{sum-ext, sum-fall}
 use Rattle.rules.proofs.Elections.{elect-ok}
 use Rattle.rules.proofs.Fits.{SumsAlways}
-use Rattle.rules.proofs.Spending.{spend-it, Spend, kept, ends, fewer, spend-view, some-kept, spent-by, earliest, earliest-keeps, sums-always}
-use Rattle.rules.proofs.Stores.{Served, last, more, served-view, Late, gone-late, in-time, late-view, gave, gave-it, gave-other, is-other, slot-at, SlotKeeps, slot-keeps}
+use Rattle.rules.proofs.Spending.{spend-it, kept, ends, fewer, spend-view, some-kept, spent-by, earliest, earliest-keeps, sums-always}
+use Rattle.rules.proofs.Stores.{last, more, served-view, gone-late, in-time, late-view, gave, gave-it, gave-other, is-other, slot-at, slot-keeps}
 
 pub elected-ok : (t : Table) → Elected (liveAt t) (rankAt t) placeCount (elected t)
 unfolding elected

@@ -1,26 +1,25 @@
 -- Every call hands back a sound table where it was given one: it stores a sound place with the same total, or it gives slots.
-use mathlib.Core.Path.{_≡_, refl, sym, ap, _∙_}
-use mathlib.Core.Bool.{Bool, true, false, _&&_, not, true≢false}
-use mathlib.Core.List.{List, [], _∷_}
+use mathlib.Core.Path.{_≡_, refl, ap, _∙_}
+use mathlib.Core.List.{[], _∷_}
 use Prim.Native.Nat.{ℕ, _+_, _≤_, _<_}
 use native.Mathlib.Omega.{arith}
 use native.Mathlib.Nat.{le-trans}
 use native.Mathlib.Decide.{ℕ-discrete}
-use lib.Dec.{leb, ltb, eqb}
-use lib.ListN.{length, length-set}
+use lib.Dec.{ltb, eqb}
+use lib.ListN.{length-set}
 use borrow.Author.Tests.{leb-false, ltb-false, eqb-true, eq-eqb, ne-eqb, not-false}
 use Rattle.rules.specs.declared.Place.{Place}
 use Rattle.rules.specs.Numbers.{placeCount, lastTick, longestSpan, lastLevel}
 use Rattle.rules.specs.Table.{Table, closedPlace, at, put}
-use Rattle.rules.specs.Fit.{Job, due, demand, SumsFit, jobsOf, fitsBySums}
-use Rattle.rules.specs.Sound.{SoundPlace, closed, resting, busy, Sound, sound}
-use Rattle.rules.specs.Slot.{ended, slot}
+use Rattle.rules.specs.Fit.{demand, SumsFit, jobsOf, fitsBySums}
+use Rattle.rules.specs.Sound.{SoundPlace, closed, resting, busy, Sound}
+use Rattle.rules.specs.Slot.{ended}
 use Rattle.rules.specs.Call.{Call, Open, Close, Arrive, Depart, Elect, Slot, Advance, withJob, arrived, opened, checks, refusal, effect, called}
 use Rattle.rules.proofs.Tests.{tests, some-fail, and-off}
 use Rattle.rules.proofs.Sums.{sum-mono, sum-ext}
 use Rattle.rules.proofs.Fits.{SumsAlways, due-gone}
 use Rattle.rules.proofs.Spending.{sums-always}
-use Rattle.rules.proofs.Facts.{sound-holds, sums-iff}
+use Rattle.rules.proofs.Facts.{sums-iff}
 use Rattle.rules.proofs.Answers.{Clear, passed, called-done, called-refused}
 use Rattle.rules.proofs.Stores.{Put, there, other, put-view}
 use Rattle.rules.proofs.Kept.{live-bounds, slot-sound, slots-sound}

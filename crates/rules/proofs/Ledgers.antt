@@ -2,16 +2,16 @@
 use mathlib.Core.Path.{_≡_, refl, sym, ap, ap₂, _∙_, subst}
 use mathlib.Core.Logic.{_≢_}
 use mathlib.Core.Bool.{Bool, true, false, cond, _&&_}
-use mathlib.Core.List.{List, [], _∷_, _++_}
-use Prim.Native.Nat.{ℕ, _+_, _-_, _≤_, _<_}
+use mathlib.Core.List.{List, [], _∷_}
+use Prim.Native.Nat.{ℕ, _+_, _-_, _<_}
 use native.Mathlib.Omega.{arith}
 use native.Mathlib.Decide.{ℕ-discrete}
 use lib.Dec.{leb, eqb}
 use lib.ListN.{length}
-use borrow.Author.Tests.{le-leb, lt-leb, eq-eqb, ne-eqb, leb-false}
+use borrow.Author.Tests.{eq-eqb, ne-eqb, leb-false}
 use Rattle.rules.specs.declared.Place.{Place}
 use Rattle.rules.specs.Numbers.{placeCount, late}
-use Rattle.rules.specs.Table.{Table, isOpen, isLive, at, put}
+use Rattle.rules.specs.Table.{Table, isOpen, isLive, at}
 use Rattle.rules.specs.Election.{Who, nobody, place, number, elected}
 use Rattle.rules.specs.Sound.{Sound}
 use Rattle.rules.specs.Slot.{ended, served, unlessLate}
@@ -20,7 +20,7 @@ use Rattle.rules.specs.History.{Deed, Opened, Closed, Arrived, Departed,
 use Rattle.rules.specs.Demands.{figuresOf}
 use Rattle.rules.proofs.Tests.{pick-yes, pick-no}
 use Rattle.rules.proofs.Answers.{passed}
-use Rattle.rules.proofs.Stores.{put-it, put-other, Served, last, more, served-view, gave, gave-it, gave-other, is-other, slot-at, slot-keeps}
+use Rattle.rules.proofs.Stores.{put-it, put-other, last, more, served-view, gave, gave-it, gave-other, is-other, slot-at, slot-keeps}
 use Rattle.rules.proofs.Histories.{callOf, Allowed, next, AllAllowed, after, next-sound, next-policy, deed-clock}
 
 -- the figures of a place at this clock

@@ -1,28 +1,27 @@
 -- The promises of specs/Promises.antt, each under its name in small letters.
-use mathlib.Core.Path.{_≡_, refl, sym, ap, ap₂, _∙_, subst}
-use mathlib.Core.Logic.{_⊎_, inl, inr, ⊎-elim, _↔_}
+use mathlib.Core.Path.{_≡_, refl, sym, ap, _∙_}
+use mathlib.Core.Logic.{_⊎_, inl, inr, ⊎-elim}
 use mathlib.Core.Bool.{Bool, true, false, cond, not}
-use mathlib.Core.List.{List, [], _∷_, _++_, append-assoc}
+use mathlib.Core.List.{List, _++_, append-assoc}
 use Prim.Native.Nat.{ℕ, _+_, _≤_, _<_}
 use native.Mathlib.Omega.{arith}
 use native.Mathlib.Decide.{ℕ-discrete}
-use lib.Dec.{ltb, eqb}
-use lib.ListN.{length, take, drop, replicate, getD, length-replicate, getD-replicate, length-append, length-take, length-drop}
+use lib.ListN.{length, take, drop, length-replicate, getD-replicate, length-append, length-take, length-drop}
 use lib.Seq.{drop-drop, take-at, drop-at}
 use borrow.Author.Tests.{ne-eqb, eqb-true, ltb-false, le-ltb, not-false}
 use Rattle.rules.specs.Numbers.{placeCount, lastTick, mostSlots}
 use Rattle.rules.specs.Table.{Table, zeroPlace, freshTable, zeroTable, at}
-use Rattle.rules.specs.Election.{elected, PublishedRule}
-use Rattle.rules.specs.Fit.{demand, due, SumsFit, jobsOf, fitsBySums}
-use Rattle.rules.specs.Sound.{Sound, closed, sound, knownPolicy, totals}
+use Rattle.rules.specs.Election.{elected}
+use Rattle.rules.specs.Fit.{SumsFit, jobsOf, fitsBySums}
+use Rattle.rules.specs.Sound.{Sound, closed, knownPolicy}
 use Rattle.rules.specs.Slot.{slots, named}
-use Rattle.rules.specs.Call.{Call, Elect, Slot, Advance, judge, checks, refusal, effect, namedBy, written, done, called, setUp}
-use Rattle.rules.specs.Promises.{EachRefusalExactlyWhenThePaperSays, SetUpRefusesOnlyOtherPolicies, RefusedCallChangesNothing, RefusedSetUpGivesZeros, SoundIsDecided, SetUpGivesSound, SoundIsKept, ElectionFollowsThePublishedRule, SlotGoesWhereElected, SumsFitExactlyWhenAPlanServesAll, Run, slotCalls, AdvanceIsSingleSlots, AdvancesJoin}
+use Rattle.rules.specs.Call.{Elect, Slot, Advance, judge, checks, refusal, effect, namedBy, written, done, called, setUp}
+use Rattle.rules.specs.Promises.{EachRefusalExactlyWhenThePaperSays, SetUpRefusesOnlyOtherPolicies, RefusedCallChangesNothing, RefusedSetUpGivesZeros, SoundIsDecided, SetUpGivesSound, SoundIsKept, ElectionFollowsThePublishedRule, SlotGoesWhereElected, SumsFitExactlyWhenAPlanServesAll, AdvanceIsSingleSlots, AdvancesJoin}
 use Rattle.rules.proofs.Sums.{sum-zero}
 use Rattle.rules.proofs.Elections.{elected-unique}
 use Rattle.rules.proofs.Spending.{fits-iff}
 use Rattle.rules.proofs.Facts.{sound-holds, holds-sound, sums-iff, known-policy}
-use Rattle.rules.proofs.Answers.{Clear, called-done, called-refused, answer-is, passed}
+use Rattle.rules.proofs.Answers.{called-done, called-refused, answer-is, passed}
 use Rattle.rules.proofs.Kept.{elected-ok, some-left, slots-sound, slots-clock}
 use Rattle.rules.proofs.KeptByCalls.{call-sound}
 use Rattle.rules.proofs.Refused.{rows, first-row, row, end, reflects-or, reflects-not, reflects-eq}

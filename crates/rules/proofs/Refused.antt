@@ -1,6 +1,6 @@
 -- Each refusal is given exactly when the paper says: row by row the test of a check reflects the paper's words. For row 9 the rows
 -- before it give a sound table with the new job in it, where the test by sums is equal to the sentence on plans.
-use mathlib.Core.Path.{_≡_, refl, sym, ap, _∙_, subst}
+use mathlib.Core.Path.{_≡_, refl, sym}
 use mathlib.Core.Logic.{_⊎_, inl, inr, ⊎-elim, _↔_}
 use mathlib.Core.Bool.{Bool, true, false, cond, _&&_, _||_, not, true≢false, false≢true}
 use mathlib.Core.List.{List, [], _∷_, _++_}
@@ -10,18 +10,16 @@ use native.Mathlib.Decide.{decLt}
 use lib.Dec.{leb, ltb, eqb}
 use lib.ListN.{length, drop, length-drop}
 use borrow.Author.Tests.{leb-true, leb-false, ltb-true, ltb-false, eqb-true, eqb-false, eq-eqb, not-true, not-false}
-use Rattle.rules.specs.Numbers.{placeCount, lastTick, longestSpan, lastLevel, mostSlots, earliestDeadline, fixedPriority}
+use Rattle.rules.specs.Numbers.{placeCount, lastTick, longestSpan, lastLevel, mostSlots}
 use Rattle.rules.specs.Table.{Table, at}
-use Rattle.rules.specs.Fit.{Plan, Fits, jobsOf, fitsBySums}
-use Rattle.rules.specs.Sound.{Sound, sound, knownPolicy}
-use Rattle.rules.specs.Call.{Call, Open, Close, Arrive, Depart, Elect, Slot, Advance, noFit, withJob, arrived, judge, checks, refusal, called}
+use Rattle.rules.specs.Fit.{Fits, jobsOf, fitsBySums}
+use Rattle.rules.specs.Sound.{Sound, sound}
+use Rattle.rules.specs.Call.{Call, Open, Close, Arrive, Depart, Elect, Slot, Advance, withJob, arrived, judge, checks}
 use Rattle.rules.specs.Source000.{SomeLeft}
-use Rattle.rules.specs.Promises.{BadReserve, BadJob, SomePlanServes, Refusals, FirstIs, EachRefusalExactlyWhenThePaperSays}
-use Rattle.rules.proofs.Tests.{clash, and-left, and-right, and-off, some-fail}
-use Rattle.rules.proofs.Fits.{SumsAlways}
+use Rattle.rules.specs.Promises.{SomePlanServes, Refusals, FirstIs}
+use Rattle.rules.proofs.Tests.{clash, and-left, and-right, some-fail}
 use Rattle.rules.proofs.Spending.{fits-iff}
 use Rattle.rules.proofs.Facts.{sound-holds, holds-sound, sums-iff}
-use Rattle.rules.proofs.Answers.{called-done, called-refused}
 use Rattle.rules.proofs.Stores.{Put, there, other, put-view}
 use Rattle.rules.proofs.Kept.{some-left}
 

@@ -1,17 +1,15 @@
 -- n slots in a row: split in two, and as n slot calls.
-use mathlib.Core.Path.{_≡_, refl, sym, ap, ap₂, _∙_}
-use mathlib.Core.Bool.{true, false}
-use mathlib.Core.List.{List, [], _∷_, _++_, append-assoc}
+use mathlib.Core.Path.{_≡_, refl, ap}
+use mathlib.Core.List.{_∷_, _++_}
 use Prim.Native.Nat.{ℕ, zero, suc, _+_, _≤_, _<_}
 use native.Mathlib.Omega.{arith}
 use native.Mathlib.Nat.{zero-add, suc-add}
-use lib.Dec.{ltb}
 use lib.ListN.{length, replicate}
 use borrow.Author.Tests.{le-ltb}
 use Rattle.rules.specs.Numbers.{lastTick}
 use Rattle.rules.specs.Table.{Table}
 use Rattle.rules.specs.Election.{number, elected}
-use Rattle.rules.specs.Sound.{Sound, sound}
+use Rattle.rules.specs.Sound.{Sound}
 use Rattle.rules.specs.Slot.{slot, slots, named}
 use Rattle.rules.specs.Call.{Slot, judge, checks, refusal, effect, namedBy, done, called}
 use Rattle.rules.specs.Promises.{Run, slotCalls}

@@ -1,12 +1,11 @@
 -- The claims of specs/Source000.antt, each under its name in small letters: the policy keeps the sums small, so a live deadline is ahead.
-use mathlib.Core.Path.{_≡_, refl, sym, ap, _∙_, subst}
+use mathlib.Core.Path.{_≡_, sym, ap, _∙_, subst}
 use mathlib.Core.Bool.{true}
 use mathlib.Core.List.{List, _++_}
 use Prim.Native.Nat.{ℕ, zero, suc, _+_, _-_, _≤_, _<_}
 use native.Mathlib.Omega.{arith}
 use borrow.Author.Tests.{eqb-true}
 use Rattle.rules.specs.Numbers.{placeCount}
-use Rattle.rules.specs.Election.{Who}
 use Rattle.rules.specs.Table.{at}
 use Rattle.rules.specs.Fit.{Job, slotsFor, Fits, jobsOf}
 use Rattle.rules.specs.Sound.{Sound}

@@ -5,7 +5,7 @@ use mathlib.Core.Bool.{Bool, true, false, cond, _&&_, true≢false, false≢true
 use Prim.Native.Nat.{ℕ, zero, suc, _+_, _-_, _≤_, _<_}
 use native.Mathlib.Omega.{arith}
 use native.Mathlib.Decide.{ℕ-discrete, decLe}
-use lib.Dec.{leb, eqb}
+use lib.Dec.{eqb}
 use borrow.Author.Tests.{eqb-true, le-leb, lt-leb, eq-eqb, ne-eqb}
 use Rattle.rules.specs.Tests.{sum}
 use Rattle.rules.specs.Election.{Who, nobody, place, Elected, goes-to, idles, elect}
@@ -14,7 +14,7 @@ use Rattle.rules.specs.Source000.{gone, less, spend, SomeLeft}
 use Rattle.rules.proofs.Tests.{and-left, and-right}
 use Rattle.rules.proofs.Sums.{sum-ext, sum-zero, sum-fall, term-le, find}
 use Rattle.rules.proofs.Elections.{least, elect-ok}
-use Rattle.rules.proofs.Fits.{SumsAlways, due-in, due-gone, due-later, Due, in-time, not-yet, due-view, for-it, for-other, slots-ext, necessary}
+use Rattle.rules.proofs.Fits.{SumsAlways, due-in, due-gone, due-later, in-time, not-yet, due-view, for-it, slots-ext, necessary}
 
 pub spend-it : (jobs : ℕ → Job) (p : ℕ) → spend (place p) jobs p ≡ less (jobs p)
 unfolding spend

@@ -1,21 +1,21 @@
 -- Places after a store, and views of what a slot makes of a place.
 use mathlib.Core.Path.{_≡_, refl, sym, ap, _∙_}
 use mathlib.Core.Logic.{_≢_}
-use mathlib.Core.Bool.{Bool, true, false, cond, _&&_}
+use mathlib.Core.Bool.{cond}
 use mathlib.Core.List.{List, map}
 use Prim.Native.Nat.{ℕ, _+_, _-_, _≤_, _<_}
 use native.Mathlib.Omega.{arith}
 use native.Mathlib.Decide.{ℕ-discrete, decLe}
-use lib.Dec.{leb, eqb}
-use lib.ListN.{length, getD, set, length-set, length-map, List·getD-map}
+use lib.Dec.{eqb}
+use lib.ListN.{length, getD, length-set, length-map, List·getD-map}
 use lib.Seq.{getD-set-same, getD-set-other}
-use borrow.Author.Tests.{le-leb, lt-leb, eq-eqb, ne-eqb, eqb-true, eqb-false}
+use borrow.Author.Tests.{le-leb, lt-leb, eq-eqb, ne-eqb}
 use Rattle.rules.specs.declared.Place.{Place}
 use Rattle.rules.specs.Numbers.{spent, late}
-use Rattle.rules.specs.Table.{Table, zeroPlace, isLive, at, put}
+use Rattle.rules.specs.Table.{Table, zeroPlace, at, put}
 use Rattle.rules.specs.Election.{Who, nobody, place, elected}
 use Rattle.rules.specs.Slot.{ended, given, served, unlessLate, serve, slot}
-use Rattle.rules.proofs.Tests.{clash, pick-yes, pick-no}
+use Rattle.rules.proofs.Tests.{pick-yes, pick-no}
 
 pub put-it : (t : Table) (p : ℕ) (x : Place) → p < length (t .places) → at (put t p x) p ≡ x
 put-it t p x h = getD-set-same (t .places) p x zeroPlace h

@@ -7,7 +7,7 @@ use lib.Dec.{eqb}
 use lib.ListN.{replicate}
 use Rattle.rules.specs.declared.Place.{Place}
 use Rattle.rules.specs.Table.{Table, at}
-use Rattle.rules.specs.Call.{Call, Open, Close, Arrive, Depart, Advance, Result, called, setUp}
+use Rattle.rules.specs.Call.{Call, Open, Close, Arrive, Depart, Advance, called, setUp}
 
 -- every figure of a table, in a row
 unfoldable pub figuresOf : List Place → List ℕ

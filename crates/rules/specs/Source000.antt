@@ -1,7 +1,7 @@
 -- The bridge to source 000, EDF for arbitrary sequences of jobs: its own claim, that a schedulable set of jobs is never overdue where the
 -- policy is applied (000, V.B.1), of any set of jobs; and of every history under policy 1.
 use mathlib.Core.Path.{_≡_}
-use mathlib.Core.Bool.{Bool, true, false, cond}
+use mathlib.Core.Bool.{true, false, cond}
 use mathlib.Core.List.{List, _++_}
 use Prim.Native.Nat.{ℕ, zero, suc, _+_, _-_, _≤_, _<_}
 use lib.Dec.{leb, eqb}

@@ -6,7 +6,7 @@ use Prim.Native.Nat.{ℕ}
 use Rattle.time.specs.declared.Span.{Span}
 use Rattle.rules.specs.Table.{Table as Ruled}
 use Rattle.rules.specs.Sound.{sound}
-use Rattle.rules.specs.Call.{Call, Open, Close, Arrive, Depart, Elect, Slot, Advance, Result, called, setUp}
+use Rattle.rules.specs.Call.{Open, Close, Arrive, Depart, Elect, Slot, Advance, Result, called, setUp}
 use Rattle.table.specs.declared.Table.{Table}
 use Rattle.table.specs.declared.Answer.{Answer}
 use Rattle.table.specs.declared.Choice.{Choice}

@@ -1,5 +1,4 @@
 -- The test that the crate table answers, as a number.
-use mathlib.Core.Path.{_≡_}
 use borrow.Author.Needs.{needs}
 use Rattle.board.proofs.Tests.{as-number}
 use Rattle.board.proofs.trinvoksha_is_sound.Statement.{statement}
