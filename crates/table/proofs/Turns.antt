@@ -1,32 +1,35 @@
 -- One slot, and n of them into a record, as the code gives them.
 use mathlib.Core.Path.{_≡_, refl, sym, ap, _∙_}
-use mathlib.Core.Bool.{true}
+use mathlib.Core.Bool.{Bool, true, false, cond}
 use mathlib.Core.List.{List, [], _∷_, _++_, map, append-assoc, append-nil}
-use Prim.Native.Nat.{ℕ, suc, _+_, _-_, _≤_, _<_}
+use Prim.Native.Nat.{ℕ, zero, suc, _+_, _-_, _≤_, _<_}
 use native.Mathlib.Omega.{arith}
+use native.Mathlib.Decide.{ℕ-discrete, decLt}
+use lib.Dec.{ltb, eqb}
 use native.Mathlib.Numerals.{add-one}
 use native.Mathlib.Nat.{add-zero}
 use lib.ListN.{length, getD, set, take, drop, length-append, length-drop, drop-of-length-le}
-use lib.Seq.{drop-cons, set-at, take-all}
-use borrow.Author.Tests.{lt-ltb, ltb-false, ne-eqb, not-false}
+use lib.Seq.{drop-cons, set-at, take-all, set-getD}
+use borrow.Author.Tests.{lt-ltb, le-ltb, ltb-false, eq-eqb, ne-eqb, not-false}
 use Rattle.time.specs.declared.Instant.{Instant}
+use Rattle.time.specs.declared.Span.{Span}
 use Rattle.time.specs.Kinds.{instant, span}
 use Rattle.rules.specs.declared.Place.{Place}
 use Rattle.rules.specs.Numbers.{placeCount, lastTick, fixedPriority}
 use Rattle.rules.specs.Table.{Table, zeroPlace}
 use Rattle.rules.specs.Election.{Who, nobody, place, number, Elected, goes-to, liveAt, rankAt, elected}
 use Rattle.rules.specs.Sound.{sound}
-use Rattle.rules.specs.Slot.{unlessLate, serve, idleMore, slot, slots, named}
-use Rattle.rules.specs.Call.{Slot, Advance, checks, refusal, effect, namedBy, done}
+use Rattle.rules.specs.Slot.{served, unlessLate, serve, idleMore, slot, slots, named}
+use Rattle.rules.specs.Call.{Advance, checks, refusal}
 use Rattle.rules.proofs.Facts.{sound-holds, holds-sound}
 use Rattle.rules.proofs.Answers.{passed}
+use Rattle.rules.proofs.Stores.{slot-keeps}
 use Rattle.rules.proofs.Kept.{elected-ok, slots-sound, slots-clock}
 use Rattle.rules.proofs.Runs.{slots-join, named-join, named-length}
 use Rattle.table.specs.declared.Table.{Table as Dressed}
-use Rattle.table.specs.declared.Turn.{Turn}
-use Rattle.table.specs.Dress.{ruled, dressed, turn}
-use Rattle.table.specs.Leaves.{servedTable, lateTable, advanceRefusal}
-use Rattle.table.proofs.Loops.{mapTo, mapTo-next}
+use Rattle.table.specs.Dress.{ruled, dressed}
+use Rattle.table.specs.Leaves.{servedTable, lateTable, servedBy, idleAfter, placesLookedAt, indexOf, advanceRefusal}
+use Rattle.table.proofs.Loops.{mapTo, mapTo-next, mapTo-all}
 
 -- the table with its first i places as step 4 leaves them
 abbrev pub lateTo : ℕ → Dressed → Dressed
@@ -67,10 +70,6 @@ number-byte t = go (elected t) (elected-ok t)
 pub run-sound : (t : Table) (n k : ℕ) {u : Dressed} → sound t ≡ true → t .now .0 + n ≤ lastTick → k < n → u ≡ dressed (slots k t) → (sound (ruled u) ≡ true) × (u .now .0 < lastTick)
 run-sound t n k e h l f = rw f (holds-sound (slots k t) (slots-sound k t (omega arith) (sound-holds t e)), omega (arith, slots-clock k t))
 
-pub run-next : (t : Table) (k : ℕ) {u : Dressed} {r : Turn} → u ≡ dressed (slots k t) → r ≡ turn (done (ruled u) Slot) → (r .table ≡ dressed (slots (k + 1) t)) × (r .place ≡ number (elected (slots k t)))
-unfolding slots effect namedBy
-run-next t k e f = rw (f, e, slots-join) (refl, refl)
-
 pub bytes-next : (t : Table) (k b : ℕ) {bytes : List ℕ} (old : List ℕ) → k < length old → bytes ≡ named k t ++ drop k old → b ≡ number (elected (slots k t)) → set bytes k b ≡ named (k + 1) t ++ drop (k + 1) old
 unfolding named
 bytes-next t k b old h e f = rw (e, f, named-join, add-one, drop-cons old k 0)
@@ -94,3 +93,47 @@ pub piece-back : (n : ℕ) (t : Table) (old : List ℕ) (start : ℕ) {piece : L
     → take start old ++ (piece ++ drop (length old - start) (drop start old)) ≡ take start old ++ (named n t ++ drop n (drop start old))
 piece-back n t old start h e = let l : length (drop start old) ≤ length old - start = simp length-drop (omega arith) in
     rw (e, take-all (length old - start) (drop start old) l, drop-of-length-le (drop start old) l, append-nil)
+
+-- the slots leave the policy as it was
+pub slots-policy : (n : ℕ) (t : Table) → slots n t .policy ≡ t .policy
+unfolding slots
+slots-policy zero t = refl
+slots-policy (suc n) t = slots-policy n (slot t) ∙ slot-keeps t .policy
+
+-- the place looked at is one of the table's
+pub index-few : (p : ℕ) → indexOf p < placeCount
+unfolding indexOf
+index-few p = elim (decLt p placeCount) [ yes h ↦ rw (lt-ltb p placeCount h) h | no n ↦ rw (le-ltb p placeCount (omega arith)) (omega arith) ]
+
+pub looked-few : (policy : ℕ) → placesLookedAt policy ≤ placeCount
+unfolding placesLookedAt
+looked-few policy = go (eqb policy fixedPriority)
+  where
+    go : (b : Bool) → cond b placeCount 0 ≤ placeCount
+    go true = omega arith
+    go false = omega arith
+
+-- the code's steps 2 and 3, without a branch over the table
+pub serves-at : (t : Dressed) (e : ℕ) {at : ℕ} {x : Place} {idle : Span} (now : Instant) → length (t .places) ≡ placeCount → at ≡ indexOf e → x ≡ servedBy e (getD (t .places) at zeroPlace) → idle ≡ idleAfter e (t .idle)
+    → let u = servedTable e t in _≡_ {A = Dressed} (record { policy = t .policy; now = now; idle = idle; places = set (t .places) at x }) (record { policy = u .policy; now = now; idle = u .idle; places = u .places })
+unfolding servedTable servedBy idleAfter indexOf
+serves-at t e now h f g i = rw (g, i, f) (go (ltb e placeCount))
+  where
+    go : (b : Bool) → let i = cond b e (placeCount - 1) in let u : Dressed = cond b (record { policy = t .policy; now = t .now; idle = t .idle; places = set (t .places) e (served (getD (t .places) e zeroPlace)) }) (record { policy = t .policy; now = t .now; idle = span (t .idle .0 + 1); places = t .places }) in
+        _≡_ {A = Dressed} (record { policy = t .policy; now = now; idle = cond b (t .idle) (span (t .idle .0 + 1)); places = set (t .places) i (cond b (served (getD (t .places) i zeroPlace)) (getD (t .places) i zeroPlace)) })
+        (record { policy = u .policy; now = now; idle = u .idle; places = u .places })
+    go true = refl
+    go false = ap (λ l. record { policy = t .policy; now = now; idle = span (t .idle .0 + 1); places = l }) (set-getD (t .places) (placeCount - 1) zeroPlace)
+
+-- step 4 is over when it has looked at the places that it looks at
+pub late-over : (t g : Dressed) (j : ℕ) → length (t .places) ≡ placeCount → j ≡ placesLookedAt (t .policy) → g ≡ lateTo j t → g ≡ lateTable t
+unfolding lateTable placesLookedAt
+late-over t g j h e f = elim (ℕ-discrete (t .policy) fixedPriority) [
+  | yes p ↦ f ∙ ap (λ l. record { policy = t .policy; now = t .now; idle = t .idle; places = l }) (mapTo-all (unlessLate (t .policy) (t .now .0)) j (t .places) (omega (arith, rw (eq-eqb (t .policy) fixedPriority p) at e)))
+  | no n ↦ f ∙ ap (λ l. record { policy = t .policy; now = t .now; idle = t .idle; places = l }) (ap (λ k. mapTo (unlessLate (t .policy) (t .now .0)) k (t .places)) (rw (ne-eqb (t .policy) fixedPriority n) at e) ∙ late-never (t .policy) (t .now .0) (t .places) n)
+]
+
+-- one slot more
+pub run-slot : (t : Table) (k : ℕ) {u v : Dressed} → u ≡ dressed (slots k t) → v ≡ dressed (slot (ruled u)) → v ≡ dressed (slots (k + 1) t)
+unfolding slots
+run-slot t k e f = rw (f, e, slots-join)

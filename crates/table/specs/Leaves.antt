@@ -4,18 +4,17 @@ use mathlib.Core.List.{[], _∷_, map}
 use Prim.Native.Nat.{ℕ, _+_, _-_, _<_, _≤_}
 use lib.Dec.{leb, ltb, eqb}
 use lib.ListN.{getD, set}
+use Rattle.time.specs.declared.Span.{Span}
 use Rattle.time.specs.Kinds.{span, largest}
 use Rattle.rules.specs.declared.Place.{Place}
-use Rattle.rules.specs.Numbers.{placeCount, idleByte}
+use Rattle.rules.specs.Numbers.{placeCount, idleByte, fixedPriority}
 use Rattle.rules.specs.Table.{Table as Ruled, zeroPlace, isLive, at}
 use Rattle.rules.specs.Election.{rank}
 use Rattle.rules.specs.Fit.{demand, jobsOf}
-use Rattle.rules.specs.Sound.{totals}
 use Rattle.rules.specs.Slot.{served, unlessLate}
 use Rattle.rules.specs.Call.{judge, notSound, badCount, beyondClock}
 use Rattle.table.specs.declared.Table.{Table}
 use Rattle.table.specs.declared.election.Lead.{Lead}
-use Rattle.table.specs.Dress.{ruled}
 
 -- the clause of the fit at one place's deadline
 abbrev pub fitsAt : Ruled → Place → Bool
@@ -25,16 +24,27 @@ fitsAt t q = not (isLive q) || leb (demand (jobsOf t) placeCount (q .deadline .0
 unfoldable pub ahead : ℕ → Lead → ℕ → Place → Lead
 ahead policy lead i p = cond (isLive p && (eqb (lead .place) idleByte || ltb (rank policy p) (lead .rank))) (record { place = i; rank = rank policy p }) lead
 
--- the slots given and the idle ones
-abbrev pub countedSlots : Table → ℕ
-countedSlots t = totals (ruled t) + t .idle .0
-
 -- steps 2 and 3 of a slot
 unfoldable pub servedTable : ℕ → Table → Table
 servedTable place t =
     cond (ltb place placeCount)
     (record { policy = t .policy; now = t .now; idle = t .idle; places = set (t .places) place (served (getD (t .places) place zeroPlace)) })
     (record { policy = t .policy; now = t .now; idle = span (t .idle .0 + 1); places = t .places })
+
+-- the same of the place looked at, and of the idle count
+unfoldable pub servedBy : ℕ → Place → Place
+servedBy elected p = cond (ltb elected placeCount) (served p) p
+
+unfoldable pub idleAfter : ℕ → Span → Span
+idleAfter elected idle = cond (ltb elected placeCount) idle (span (idle .0 + 1))
+
+-- how many places step 4 looks at
+unfoldable pub placesLookedAt : ℕ → ℕ
+placesLookedAt policy = cond (eqb policy fixedPriority) placeCount 0
+
+-- where a place stands; the last place for a number that names none
+unfoldable pub indexOf : ℕ → ℕ
+indexOf place = cond (ltb place placeCount) place (placeCount - 1)
 
 -- step 4 of a slot
 unfoldable pub lateTable : Table → Table

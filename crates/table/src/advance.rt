@@ -8,19 +8,26 @@ ghost use lib.ListN.{length, drop};
 ghost use Rattle.rules.specs.Numbers.{lastTick};
 ghost use Rattle.rules.specs.Sound.{sound};
 ghost use Rattle.rules.specs.Slot.{slots as slotsOf, named};
-ghost use Rattle.rules.specs.Call.{Advance, refusal};
 ghost use Rattle.table.specs.Dress.{ruled, dressed, AdvanceGives};
 ghost use Rattle.table.specs.Leaves.{advanceRefusal};
 use crate::Answer;
 use crate::Table;
-use crate::slot::give_slot;
+use crate::election::Lead;
+use crate::election::leader;
+use crate::slot::idle_after;
+use crate::slot::index;
+use crate::slot::places_looked_at;
+use crate::slot::served_by;
+use crate::slot::unless_late;
 use rules::BAD_FIGURES;
 use rules::BEYOND_CLOCK;
 use rules::DONE;
 use rules::LAST_TICK;
 use rules::MOST_SLOTS;
 use rules::NO_ROOM;
+use rules::NOBODY;
 use rules::NOT_SOUND;
+use rules::PLACES;
 use time::Span;
 
 // The refusals of an advance over a record of this length, in the order of the paper.
@@ -45,18 +52,40 @@ fn advance_refusal(t: Table, n: Span, length: usize, start: usize) -> u64
     DONE
 }
 
-// n slots of a sound table, written into the front of the piece.
-fn run(t: Table, n: usize, piece: &mut [u8]) -> Table
+// n slots of a sound table, written into the front of the piece. The table stays in one local: a call that took it would copy it in every slot.
+pub(crate) fn run(t: Table, n: usize, piece: &mut [u8]) -> Table
     requires { ⌜ (sound (ruled t) ≡ true) × (t .now .0 + n ≤ lastTick) × (n ≤ length (now piece)) ⌝ }
     ensures { λ r. ⌜ (r ≡ dressed (slotsOf n (ruled t))) × (now (piece .exit) ≡ named n (ruled t) ++ drop n (now (piece .entry))) ⌝ }
 {
+    let policy = t.policy;
+    let looked_at = places_looked_at(policy);
     let mut table = t;
     let mut k: usize = 0;
     while k < n {
-        let turn = give_slot(table);
-        piece[k] = turn.place as u8;
-        let next = turn.table;
-        table = next;
+        let mut lead = Lead {
+            place: NOBODY,
+            rank: 0,
+        };
+        let mut i: usize = 0;
+        'elect: while i < PLACES {
+            let p = table.places[i];
+            lead = leader(policy, lead, i as u64, p);
+            i += 1;
+        }
+        piece[k] = lead.place as u8;
+        let at = index(lead.place);
+        let served = served_by(lead.place, table.places[at]);
+        let idle = idle_after(lead.place, table.idle);
+        let now = table.now.plus(Span(1));
+        table.places[at] = served;
+        table.idle = idle;
+        table.now = now;
+        let mut j: usize = 0;
+        'late: while j < looked_at {
+            let p = unless_late(policy, now, table.places[j]);
+            table.places[j] = p;
+            j += 1;
+        }
         k += 1;
     }
     table

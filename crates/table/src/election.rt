@@ -14,9 +14,9 @@ use rules::PLACES;
 use rules::Place;
 
 // The leader of the places seen so far, or nobody, and its rank.
-struct Lead {
-    place: u64,
-    rank: u64,
+pub(crate) struct Lead {
+    pub place: u64,
+    pub rank: u64,
 }
 
 // What decides under the policy.
@@ -30,7 +30,7 @@ fn rank_of(policy: u64, p: Place) -> u64
 }
 
 // Of the leader so far and the next place: that place only where it is live and nobody leads, or it has the smaller rank.
-fn leader(policy: u64, lead: Lead, place: u64, p: Place) -> Lead
+pub(crate) fn leader(policy: u64, lead: Lead, place: u64, p: Place) -> Lead
     ensures { λ r. ⌜ r ≡ ahead policy lead place p ⌝ }
 {
     let rank = rank_of(policy, p);
@@ -41,7 +41,7 @@ fn leader(policy: u64, lead: Lead, place: u64, p: Place) -> Lead
 }
 
 // The place elected, or 255.
-pub(crate) fn elect(t: Table) -> u64
+fn elect(t: Table) -> u64
     ensures { λ r. ⌜ r ≡ number (elected (ruled t)) ⌝ }
 {
     let policy = t.policy;

@@ -8,10 +8,10 @@ ghost use Rattle.rules.specs.Sound.{sound};
 ghost use Rattle.rules.specs.Slot.{ended as endedWith, served as servedAs, unlessLate};
 ghost use Rattle.rules.specs.Call.{Slot, refusal, done};
 ghost use Rattle.table.specs.Dress.{ruled, turn, SlotGives};
-ghost use Rattle.table.specs.Leaves.{countedSlots, servedTable, lateTable};
+ghost use Rattle.table.specs.Leaves.{servedBy, idleAfter, placesLookedAt, indexOf};
 use crate::Table;
 use crate::Turn;
-use crate::election::elect;
+use crate::advance::run;
 use rules::BEYOND_CLOCK;
 use rules::DONE;
 use rules::FIXED_PRIORITY;
@@ -55,7 +55,7 @@ fn served(p: Place) -> Place
 }
 
 // Step 4 of a place: under policy 2, a job still live whose deadline is ≤ now is gone with ending 3.
-fn unless_late(policy: u64, now: Instant, p: Place) -> Place
+pub(crate) fn unless_late(policy: u64, now: Instant, p: Place) -> Place
     ensures { λ r. ⌜ r ≡ unlessLate policy (now .0) p ⌝ }
 {
     if (policy == FIXED_PRIORITY) & (p.live == 1) & (p.deadline.0 <= now.0) {
@@ -64,40 +64,46 @@ fn unless_late(policy: u64, now: Instant, p: Place) -> Place
     p
 }
 
-// Steps 2 and 3: the elected place, or nobody, is given the slot.
-fn serve(place: u64, t: Table) -> Table
-    requires { ⌜ countedSlots t < lastTick ⌝ }
-    ensures { λ r. ⌜ r ≡ servedTable place t ⌝ }
+// Steps 2 and 3 of the place looked at: it is served where it is elected, and stays where nobody is.
+pub(crate) fn served_by(elected: u64, p: Place) -> Place
+    requires { ⌜ p .total .0 < lastTick ⌝ }
+    ensures { λ r. ⌜ r ≡ servedBy elected p ⌝ }
 {
-    let mut after = t;
-    if place < PLACES as u64 {
-        let i = place as usize;
-        let p = served(t.places[i]);
-        after.places[i] = p;
-        return after;
+    if elected < PLACES as u64 {
+        return served(p);
     }
-    let idle = t.idle.plus(Span(1));
-    after.idle = idle;
-    after
+    p
 }
 
-// Step 4: under policy 2 the late jobs are gone.
-fn drop_late(t: Table) -> Table
-    ensures { λ r. ⌜ r ≡ lateTable t ⌝ }
+// The idle count after the slot: one more where nobody is elected.
+pub(crate) fn idle_after(elected: u64, idle: Span) -> Span
+    requires { ⌜ idle .0 < lastTick ⌝ }
+    ensures { λ r. ⌜ r ≡ idleAfter elected idle ⌝ }
 {
-    let policy = t.policy;
-    if policy != FIXED_PRIORITY {
-        return t;
+    if elected < PLACES as u64 {
+        return idle;
     }
-    let now = t.now;
-    let mut after = t;
-    let mut i: usize = 0;
-    while i < PLACES {
-        let p = unless_late(policy, now, after.places[i]);
-        after.places[i] = p;
-        i += 1;
+    idle.plus(Span(1))
+}
+
+// How many places step 4 looks at: all under policy 2, else none.
+pub(crate) fn places_looked_at(policy: u64) -> usize
+    ensures { λ r. ⌜ r ≡ placesLookedAt policy ⌝ }
+{
+    if policy == FIXED_PRIORITY {
+        return PLACES;
     }
-    after
+    0
+}
+
+// Where the place stands in the table; the last place for a number that names none.
+pub(crate) fn index(place: u64) -> usize
+    ensures { λ r. ⌜ r ≡ indexOf place ⌝ }
+{
+    if place < PLACES as u64 {
+        return place as usize;
+    }
+    PLACES - 1
 }
 
 // One slot of a sound table, before the end of the clock.
@@ -105,14 +111,12 @@ pub(crate) fn give_slot(t: Table) -> Turn
     requires { ⌜ (sound (ruled t) ≡ true) × (t .now .0 < lastTick) ⌝ }
     ensures { λ r. ⌜ r ≡ turn (done (ruled t) Slot) ⌝ }
 {
-    let place = elect(t);
-    let mut after = serve(place, t);
-    let now = t.now.plus(Span(1));
-    after.now = now;
+    let mut name = [0u8; 1];
+    let table = run(t, 1, &mut name);
     Turn {
         number: DONE,
-        place,
-        table: drop_late(after),
+        place: name[0] as u64,
+        table,
     }
 }
 

@@ -1,20 +1,22 @@
--- A sound table has counted as many slots as its clock says, so no sum is cut off, and the steps of the code are those of the rules.
-use mathlib.Core.Path.{ap}
+-- A slot is a run of one slot: the byte written is its name.
+use mathlib.Core.Path.{_≡_, refl, ap}
 use native.Mathlib.Omega.{arith}
+use lib.ListN.{getD}
 use borrow.Author.Needs.{needs}
-use Rattle.time.specs.Kinds.{instant}
+use Rattle.rules.specs.Election.{number, elected}
+use Rattle.rules.specs.Slot.{slots, named}
 use Rattle.rules.specs.Call.{effect, namedBy}
-use Rattle.rules.proofs.Facts.{sound-holds}
 use Rattle.table.specs.Dress.{ruled}
-use Rattle.table.proofs.Laws.{uncapped}
-use Rattle.table.proofs.Turns.{slot-steps}
+use Rattle.table.proofs.Turns.{number-byte}
 use Rattle.table.proofs.slot.give_slot.Statement.{statement}
 use Rattle.table.proofs.slot.give_slot.Tie as tie
 
+name-of : (c : tie.After-run) → getD (c .run .last .1 .1 .0) 0 0 ≡ number (elected (ruled (c .before .before .args .t)))
+unfolding named
+name-of c = ap (λ l. getD l 0 0) (c .run .ensures .1)
+
 pub give-slot-spec : {M : Type 1} → statement M
-unfolding effect namedBy
-give-slot-spec = tie.close (tie.spec (λ c κs. search needs)
-    (λ c κs. let s = sound-holds (ruled (c .before .args .t)) (c .before .pre .0) in omega arith)
-    (λ c κs. search needs) (λ c κs. search needs)
-    (λ c. let b = c .before .before in let s = b .before .before in
-    rw (slot-steps (s .args .t) (b .before .elect .ensures) (b .serve .ensures) (ap instant (uncapped (omega arith) (c .before .plus .ensures))) (c .drop-late .ensures), b .before .elect .ensures)))
+unfolding effect namedBy slots
+give-slot-spec = tie.close (tie.spec (λ c. refl) (λ c κs. let p = c .before .pre in (p .0, omega arith, omega arith)) (λ c. search needs)
+    (λ c. let b = number-byte (ruled (c .before .before .before .args .t)) in omega (arith, name-of (c .before)))
+    (λ c. rw (name-of (c .before), c .before .run .ensures .0)))
