@@ -8,6 +8,8 @@
 // What a caller should know: nothing has to be checked first. Every pattern of numbers is a table, and one that is not sound is answered
 // with 1. What a caller in another language owes is written in the header.
 
+#![tactic(auto)]
+
 ghost use Rattle.table.specs.Dress.{SetUpGives, OpenGives, CloseGives, ArriveGives, DepartGives, ElectionGives, SlotGives, AdvanceGives};
 ghost use Rattle.board.specs.Sound.{SoundNumber};
 

@@ -6,7 +6,7 @@ use rules::{DONE, FIXED_PRIORITY, NO_POLICY, PLACES, Place};
 use table::{Answer, Table};
 use time::{Instant, Span};
 
-#[derive(Drop)]
+#[derive(Clone, Copy)]
 pub(crate) struct Bench {
     pub table: Table,
     // whether all was as the notebook says so far

@@ -1,5 +1,7 @@
 // The bench notebook of paper 01, cases A to O, played through the real calls. The answers wanted are typed from the paper.
 
+#![tactic(auto)]
+
 use bench::{
     advance, all_idle_until, arrive, begin, clock, close, depart, election, end, ending, holds,
     open, say, slot, slots, unchanged, zeros,

@@ -12,7 +12,7 @@ use Rattle.rules.specs.Table.{Table}
 use Rattle.rules.specs.Election.{number, elected}
 use Rattle.rules.specs.Sound.{Sound}
 use Rattle.rules.specs.Slot.{slot, slots, named}
-use Rattle.rules.specs.Call.{Call, Open, Close, Arrive, Depart, Elect, Slot, Advance, checks, refusal, effect, named_by, written, done, called}
+use Rattle.rules.specs.Call.{Call, Open, Close, Arrive, Depart, Elect, Slot, Advance, checks, refusal, effect, named_by, written, done, refused, called}
 use Rattle.rules.specs.History.{Deed, Opened, Closed, Arrived, Departed, Happening, Did, Gave, did, happened, history_from, table_from, ticks}
 use Rattle.rules.proofs.Answers.{called_done, called_refused, passed}
 use Rattle.rules.proofs.Stores.{slot_keeps}
@@ -101,11 +101,20 @@ piece : (bytes xs rest : List ℕ) (start n : ℕ) → start ≤ length bytes �
 piece bytes xs rest start n h e =
     ap (take n) (drop_at (take start bytes) (xs ++ rest) start (simp length-take (omega arith))) ∙ take_at xs rest n e
 
+-- what happens is what the call did, where it is done, and nothing, where it is refused
+happens_if_done : (t : Table) (c : Call) → AllAllowed t (did c (done t c)) × (after t (did c (done t c)) ≡ (done t c).table) → AllAllowed t (happened c (done t c)) × (after t (happened c (done t c)) ≡ (done t c).table)
+unfolding happened
+happens_if_done t c h = h
+
+happens_if_refused : (t : Table) (c : Call) → (refusal t c ≡ 0 → ⊥) → let r = refused (refusal t c) t c in AllAllowed t (happened c r) × (after t (happened c r) ≡ r.table)
+unfolding happened
+happens_if_refused t c n = rw (ne_eqb (refusal t c) 0 n) (tt, refl)
+
 -- what a call makes happen is allowed, and leads to the table that it hands back
 call_allowed : (t : Table) (c : Call) → Sound t → AllAllowed t (happened c (called t c)) × (after t (happened c (called t c)) ≡ (called t c).table)
 call_allowed t c s = elim (ℕ_discrete (refusal t c) 0) [
-  | yes e ↦ rw (called_done t c e) (unfold happened in is_done c e)
-  | no n ↦ rw (called_refused t c (refusal t c) refl n) (unfold happened in rw (ne_eqb (refusal t c) 0 n) (tt, refl))
+  | yes e ↦ rw (called_done t c e) (happens_if_done t c (is_done c e))
+  | no n ↦ rw (called_refused t c (refusal t c) refl n) (happens_if_refused t c n)
 ]
   where
     is_done : (c : Call) → refusal t c ≡ 0 → AllAllowed t (did c (done t c)) × (after t (did c (done t c)) ≡ (done t c).table)

@@ -5,6 +5,8 @@
 // What is proved: the promises of specs/Promises.antt, in proofs/, for every table and every call; the starred cases of the notebook.
 // What a caller should know: a crate that plays by these rules cites `called` in its contracts, and inherits every promise.
 
+#![tactic(auto)]
+
 use time::{Instant, Span};
 
 // The number of places of a table.
@@ -61,7 +63,7 @@ pub const LATE: u64 = 3;
 
 // A place: its reserve, its job, and what it was given. Every pattern of numbers is a place.
 #[repr(C)]
-#[derive(Drop)]
+#[derive(Clone, Copy)]
 pub struct Place {
     // 1 open, 0 closed
     pub opened: u64,

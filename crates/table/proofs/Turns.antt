@@ -18,7 +18,7 @@ use Rattle.rules.specs.declared.Place.{Place}
 use Rattle.rules.specs.Numbers.{place_count, last_tick, fixed_priority}
 use Rattle.rules.specs.Table.{Table, zero_place}
 use Rattle.rules.specs.Election.{Who, nobody, place, number, Elected, goes_to, live_at, rank_at, elected}
-use Rattle.rules.specs.Sound.{sound}
+use Rattle.rules.specs.Sound.{Sound, sound}
 use Rattle.rules.specs.Slot.{served, unless_late, serve, idle_more, slot, slots, named}
 use Rattle.rules.specs.Call.{Advance, checks, refusal}
 use Rattle.rules.proofs.Facts.{sound_holds, holds_sound}
@@ -88,6 +88,9 @@ pub advance_refused : (t : Table) (n : ℕ) (bytes : List ℕ) (start : ℕ) →
 unfolding advance_refusal refusal checks
 advance_refused t n bytes start = refl
 
+pub advance_clear : (t : Table) (n : ℕ) (bytes : List ℕ) (start : ℕ) {r : ℕ} → r ≡ advance_refusal t n (length bytes) start → r ≡ 0 → refusal t (Advance n bytes start) ≡ 0
+advance_clear t n bytes start e f = sym (advance_refused t n bytes start) ∙ sym e ∙ f
+
 -- the piece from the start on, put back
 pub piece_back : (n : ℕ) (t : Table) (old : List ℕ) (start : ℕ) {piece : List ℕ} → start + n ≤ length old → piece ≡ named n t ++ drop n (take (length old - start) (drop start old))
     → take start old ++ (piece ++ drop (length old - start) (drop start old)) ≡ take start old ++ (named n t ++ drop n (drop start old))
@@ -112,6 +115,22 @@ looked_few policy = go (eqb policy fixed_priority)
     go : (b : Bool) → cond b place_count 0 ≤ place_count
     go true = omega arith
     go false = omega arith
+
+-- what the two functions return is as small
+pub index_returned : (p : ℕ) {at : ℕ} → at ≡ index_of p → at < place_count
+index_returned p e = rw e (index_few p)
+
+pub looked_returned : (policy : ℕ) {looked j : ℕ} → looked ≡ places_looked_at policy → j < looked → j < place_count
+looked_returned policy e h = omega (arith, looked_few policy)
+
+-- in the turn after k slots of n: the table is sound and before the end of the clock, and its policy is the one at the start
+pub record InTurn (t : Table) (u : Dressed) : Type 0 where
+  pub sound : Sound (ruled u)
+  pub clock : u.now.0 < last_tick
+  pub policy : t.policy ≡ u.policy
+
+pub in_turn : (t : Table) (n k : ℕ) {u : Dressed} → sound t ≡ true → t.now.0 + n ≤ last_tick → k < n → u ≡ dressed (slots k t) → InTurn t u
+in_turn t n k e h l f = let r = run_sound t n k e h l f in record { sound = sound_holds _ r.0; clock = r.1; policy = sym (ap (λ u. u.policy) f ∙ slots_policy k t) }
 
 -- the code's steps 2 and 3, without a branch over the table
 pub serves_at : (t : Dressed) (e : ℕ) {at : ℕ} {x : Place} {idle : Span} (now : Instant) → length t.places ≡ place_count → at ≡ index_of e → x ≡ served_by e (get_or t.places at zero_place) → idle ≡ idle_after e t.idle

@@ -16,6 +16,7 @@ use rules::{
 use time::Span;
 
 // The refusals of an advance over a record of this length, in the order of the paper.
+#[tactic(auto, unfolding(crate::specs::Leaves::advance_refusal, rules::specs::Call::judge))]
 fn advance_refusal(t: Table, n: Span, length: usize, start: usize) -> u64
     ensures { result ≡ advance_refusal (ruled t) n.0 length start }
 {

@@ -112,6 +112,7 @@ fn bad_job(p: Place, budget: Span, away: Span) -> bool
 }
 
 // The refusals of each call, in the order of the paper; 0 where none applies.
+#[tactic(auto, unfolding(rules::specs::Call::refusal, rules::specs::Call::checks, rules::specs::Call::judge))]
 fn open_refusal(t: Table, place: u64, level: u64, cap: Span, gap: Span) -> u64
     ensures { result ≡ refusal (ruled t) (Open place level cap.0 gap.0) }
 {
@@ -130,6 +131,7 @@ fn open_refusal(t: Table, place: u64, level: u64, cap: Span, gap: Span) -> u64
     DONE
 }
 
+#[tactic(auto, unfolding(rules::specs::Call::refusal, rules::specs::Call::checks, rules::specs::Call::judge))]
 fn close_refusal(t: Table, place: u64) -> u64
     ensures { result ≡ refusal (ruled t) (Close place) }
 {
@@ -152,6 +154,7 @@ fn close_refusal(t: Table, place: u64) -> u64
     DONE
 }
 
+#[tactic(auto, unfolding(rules::specs::Call::refusal, rules::specs::Call::checks, rules::specs::Call::judge))]
 fn arrive_refusal(t: Table, place: u64, budget: Span, away: Span) -> u64
     ensures { result ≡ refusal (ruled t) (Arrive place budget.0 away.0) }
 {
@@ -186,6 +189,7 @@ fn arrive_refusal(t: Table, place: u64, budget: Span, away: Span) -> u64
     DONE
 }
 
+#[tactic(auto, unfolding(rules::specs::Call::refusal, rules::specs::Call::checks, rules::specs::Call::judge))]
 fn depart_refusal(t: Table, place: u64) -> u64
     ensures { result ≡ refusal (ruled t) (Depart place) }
 {

@@ -9,7 +9,7 @@ use crate::{Choice, Table};
 use rules::{DONE, EARLIEST_DEADLINE, NOBODY, NOT_SOUND, PLACES, Place};
 
 // The leader of the places seen so far, or nobody, and its rank.
-#[derive(Drop)]
+#[derive(Clone, Copy)]
 pub(crate) struct Lead {
     pub place: u64,
     pub rank: u64,

@@ -7,6 +7,8 @@
 // What a caller should know: nothing has to be checked first. The number of an answer is 0 where the call is done, and else the number
 // of the paper's refusal; a refused call hands back the table and the record as they came.
 
+#![tactic(auto)]
+
 use rules::{PLACES, Place};
 use time::{Instant, Span};
 
@@ -19,7 +21,7 @@ mod sound;
 
 // The table of the paper: sixteen places, the policy, the clock and the count of idle slots. Every pattern of numbers is a table.
 #[repr(C)]
-#[derive(Drop)]
+#[derive(Clone, Copy)]
 pub struct Table {
     pub policy: u64,
     pub now: Instant,
@@ -29,7 +31,7 @@ pub struct Table {
 
 // What most calls answer: the paper's number, and the table.
 #[repr(C)]
-#[derive(Drop)]
+#[derive(Clone, Copy)]
 pub struct Answer {
     pub number: u64,
     pub table: Table,
@@ -37,7 +39,7 @@ pub struct Answer {
 
 // What the election answers: the paper's number, and the place whose slot comes next, or 255.
 #[repr(C)]
-#[derive(Drop)]
+#[derive(Clone, Copy)]
 pub struct Choice {
     pub number: u64,
     pub place: u64,
@@ -45,7 +47,7 @@ pub struct Choice {
 
 // What a slot answers: the paper's number, the place that was given the slot, or 255, and the table.
 #[repr(C)]
-#[derive(Drop)]
+#[derive(Clone, Copy)]
 pub struct Turn {
     pub number: u64,
     pub place: u64,

@@ -111,6 +111,7 @@ pub(crate) fn give_slot(t: Table) -> Turn
 }
 
 // The refusals of a slot, in the order of the paper.
+#[tactic(auto, unfolding(rules::specs::Call::refusal, rules::specs::Call::checks, rules::specs::Call::judge))]
 fn slot_refusal(t: Table) -> u64
     ensures { result ≡ refusal (ruled t) Slot }
 {

@@ -6,14 +6,16 @@
 // below that is exact; a difference below nought is nought.
 // What a caller should know: an instant or a span may be any number; bounds on them are the table's business.
 
+#![tactic(auto)]
+
 ghost use Rattle.time.specs.Kinds.{Later, Between, Longer, Less};
 
 #[repr(C)]
-#[derive(Drop)]
+#[derive(Clone, Copy)]
 pub struct Instant(pub u64);
 
 #[repr(C)]
-#[derive(Drop)]
+#[derive(Clone, Copy)]
 pub struct Span(pub u64);
 
 // The largest number of a word.
