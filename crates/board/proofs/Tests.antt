@@ -56,7 +56,7 @@ compared (x ∷ l) = eqb x.0 x.1 ∷ compared l
 
 tells_after : {A : Type 0} {a : Bool} → Tells A a → (l : List (ℕ × ℕ)) → Tells (A × Equal l) (every_after a (compared l))
 tells_after t [] = tells_same (λ x. (x, tt)) (λ z. z.0) t
-tells_after t (x ∷ l) = tells_same (λ z. (z.0.0, (z.0.1, z.1))) (λ z. ((z.0, z.1.0), z.1.1)) (tells_after (tells_both t (tells_equal x.0 x.1)) l)
+tells_after {A = A} {a = a} t (x ∷ l) = tells_same (λ z. (z.0.0, (z.0.1, z.1))) (λ z. ((z.0, z.1.0), z.1.1)) (tells_after {A = A × (x.0 ≡ x.1)} (tells_both t (tells_equal x.0 x.1)) l)
 
 pub tells_row : (l : List (ℕ × ℕ)) → Tells (Equal l) (every (compared l))
 tells_row l = tells_same (λ z. z.1) (λ z. (tt, z)) (tells_after {A = Unit {0}} (inl (tt, refl)) l)

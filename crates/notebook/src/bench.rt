@@ -1,8 +1,8 @@
 // The bench: a table under trial. Each step makes a real call, prints it and what was answered, and compares with what the notebook
 // says; a mismatch is named where it happens.
 
-use libc::STDOUT_FILENO;
 use rules::{DONE, FIXED_PRIORITY, NO_POLICY, PLACES, Place};
+use std::io;
 use table::{Answer, Table};
 use time::{Instant, Span};
 
@@ -13,23 +13,23 @@ pub(crate) struct Bench {
     pub right: bool,
 }
 
-pub(crate) fn say(text: &[u8]) {
-    io::write_all(STDOUT_FILENO, text);
+pub(crate) fn say(rt: &impl Print, text: &str) -> io::Result<()> {
+    print!(rt; "{text}")
 }
 
-pub(crate) fn say_number(n: u64) {
-    io::print_decimal(STDOUT_FILENO, n);
+pub(crate) fn say_number(rt: &impl Print, n: u64) -> io::Result<()> {
+    print!(rt; "{n}")
 }
 
 // Prints what was found where the notebook says otherwise; whether it is the same.
-fn compare(found: u64, wanted: u64) -> bool {
+fn compare(rt: &impl Print, found: u64, wanted: u64) -> io::Result<bool> {
     if found == wanted {
-        return true;
+        return Ok(true);
     }
-    say(b" [MISMATCH: the notebook says ");
-    say_number(wanted);
-    say(b"]");
-    false
+    say(rt, " [MISMATCH: the notebook says ")?;
+    say_number(rt, wanted)?;
+    say(rt, "]")?;
+    Ok(false)
 }
 
 fn judged(b: Bench, right: bool) -> Bench {
@@ -41,38 +41,38 @@ fn judged(b: Bench, right: bool) -> Bench {
 }
 
 // Prints a figure, and compares it.
-fn figure(b: Bench, found: u64, wanted: u64) -> Bench {
-    say_number(found);
-    let right = compare(found, wanted);
-    judged(b, right)
+fn figure(rt: &impl Print, b: Bench, found: u64, wanted: u64) -> io::Result<Bench> {
+    say_number(rt, found)?;
+    let right = compare(rt, found, wanted)?;
+    Ok(judged(b, right))
 }
 
 // Prints the answer of a call, and compares it.
-fn heard(number: u64, wanted: u64) -> bool {
+fn heard(rt: &impl Print, number: u64, wanted: u64) -> io::Result<bool> {
     if number == DONE {
-        say(b" done");
+        say(rt, " done")?;
     } else {
-        say(b" refused with ");
-        say_number(number);
+        say(rt, " refused with ")?;
+        say_number(rt, number)?;
     }
-    compare(number, wanted)
+    compare(rt, number, wanted)
 }
 
-fn after(b: Bench, a: Answer, wanted: u64) -> Bench {
-    let right = heard(a.number, wanted);
+fn after(rt: &impl Print, b: Bench, a: Answer, wanted: u64) -> io::Result<Bench> {
+    let right = heard(rt, a.number, wanted)?;
     let table = a.table;
-    Bench {
+    Ok(Bench {
         table,
         right: b.right & right,
-    }
+    })
 }
 
 // A fresh table under the policy, with the three reserves of the notebook: place 0 has C 3, T 10; place 1 has C 4, T 20; place 2 has
 // C 1, T 5. Under policy 2 place 0 has level 5 and place 1 level 2.
-pub(crate) fn begin(name: &[u8], policy: u64) -> Bench {
-    say(name);
-    say(b". Policy ");
-    say_number(policy);
+pub(crate) fn begin(rt: &impl Print, name: &str, policy: u64) -> io::Result<Bench> {
+    say(rt, name)?;
+    say(rt, ". Policy ")?;
+    say_number(rt, policy)?;
     let mut level0: u64 = 0;
     let mut level1: u64 = 0;
     if policy == FIXED_PRIORITY {
@@ -89,174 +89,206 @@ pub(crate) fn begin(name: &[u8], policy: u64) -> Bench {
         & (b.number == DONE)
         & (c.number == DONE);
     if !right {
-        say(b" [MISMATCH: the set-up or an open was refused]");
+        say(rt, " [MISMATCH: the set-up or an open was refused]")?;
     }
-    Bench { table, right }
+    Ok(Bench { table, right })
 }
 
 // Ends the line; whether all was as the notebook says.
-pub(crate) fn end(b: Bench) -> bool {
+pub(crate) fn end(rt: &impl Print, b: Bench) -> io::Result<bool> {
     if b.right {
-        say(b". As the notebook says.\n");
+        say(rt, ". As the notebook says.\n")?;
     } else {
-        say(b". NOT as the notebook says.\n");
+        say(rt, ". NOT as the notebook says.\n")?;
     }
-    b.right
+    Ok(b.right)
 }
 
-pub(crate) fn open(b: Bench, place: u64, level: u64, cap: u64, gap: u64, wanted: u64) -> Bench {
-    say(b"; open ");
-    say_number(place);
-    after(b, b.table.open(place, level, Span(cap), Span(gap)), wanted)
+pub(crate) fn open(
+    rt: &impl Print,
+    b: Bench,
+    place: u64,
+    level: u64,
+    cap: u64,
+    gap: u64,
+    wanted: u64,
+) -> io::Result<Bench> {
+    say(rt, "; open ")?;
+    say_number(rt, place)?;
+    after(
+        rt,
+        b,
+        b.table.open(place, level, Span(cap), Span(gap)),
+        wanted,
+    )
 }
 
-pub(crate) fn close(b: Bench, place: u64, wanted: u64) -> Bench {
-    say(b"; close ");
-    say_number(place);
-    after(b, b.table.close(place), wanted)
+pub(crate) fn close(rt: &impl Print, b: Bench, place: u64, wanted: u64) -> io::Result<Bench> {
+    say(rt, "; close ")?;
+    say_number(rt, place)?;
+    after(rt, b, b.table.close(place), wanted)
 }
 
-pub(crate) fn arrive(b: Bench, place: u64, budget: u64, away: u64, wanted: u64) -> Bench {
-    say(b"; arrive ");
-    say_number(place);
-    say(b" (");
-    say_number(budget);
-    say(b", ");
-    say_number(away);
-    say(b")");
-    after(b, b.table.arrive(place, Span(budget), Span(away)), wanted)
+pub(crate) fn arrive(
+    rt: &impl Print,
+    b: Bench,
+    place: u64,
+    budget: u64,
+    away: u64,
+    wanted: u64,
+) -> io::Result<Bench> {
+    say(rt, "; arrive ")?;
+    say_number(rt, place)?;
+    say(rt, " (")?;
+    say_number(rt, budget)?;
+    say(rt, ", ")?;
+    say_number(rt, away)?;
+    say(rt, ")")?;
+    after(
+        rt,
+        b,
+        b.table.arrive(place, Span(budget), Span(away)),
+        wanted,
+    )
 }
 
-pub(crate) fn depart(b: Bench, place: u64, wanted: u64) -> Bench {
-    say(b"; depart ");
-    say_number(place);
-    after(b, b.table.depart(place), wanted)
+pub(crate) fn depart(rt: &impl Print, b: Bench, place: u64, wanted: u64) -> io::Result<Bench> {
+    say(rt, "; depart ")?;
+    say_number(rt, place)?;
+    after(rt, b, b.table.depart(place), wanted)
 }
 
 // Prints a slot of a record, and compares it.
-fn show_slot(found: u8, wanted: u8) -> bool {
-    say(b" ");
-    say_number(found as u64);
-    compare(found as u64, wanted as u64)
+fn show_slot(rt: &impl Print, found: u8, wanted: u8) -> io::Result<bool> {
+    say(rt, " ")?;
+    say_number(rt, found as u64)?;
+    compare(rt, found as u64, wanted as u64)
 }
 
 // Prints as many slots of a record as are wanted, and compares each.
-fn show_slots(found: &[u8], wanted: &[u8]) -> bool {
+fn show_slots(rt: &impl Print, found: &[u8], wanted: &[u8]) -> io::Result<bool> {
     let mut right = true;
     let mut i: usize = 0;
     while i < wanted.len() {
         if i < found.len() {
-            right = show_slot(found[i], wanted[i]) & right;
+            right = show_slot(rt, found[i], wanted[i])? & right;
         }
         i += 1;
     }
-    right
+    Ok(right)
 }
 
 // As many slots as are wanted, into a record of sixteen bytes.
-pub(crate) fn slots(b: Bench, wanted: &[u8]) -> Bench {
+pub(crate) fn slots(rt: &impl Print, b: Bench, wanted: &[u8]) -> io::Result<Bench> {
     let mut found = [9u8; 16];
-    say(b"; slots");
+    say(rt, "; slots")?;
     let a = b.table.advance(Span(wanted.len() as u64), &mut found, 0);
     let table = a.table;
-    let shown = show_slots(&found, wanted);
-    let answered = compare(a.number, DONE);
-    Bench {
+    let shown = show_slots(rt, &found, wanted)?;
+    let answered = compare(rt, a.number, DONE)?;
+    Ok(Bench {
         table,
         right: b.right & shown & answered,
-    }
+    })
 }
 
 // An advance into a record whose bytes do not matter.
-pub(crate) fn advance(b: Bench, n: u64, record: &mut [u8], start: usize, wanted: u64) -> Bench {
-    say(b"; advance ");
-    say_number(n);
-    say(b" into ");
-    say_number(record.len() as u64);
-    say(b" bytes from ");
-    say_number(start as u64);
-    after(b, b.table.advance(Span(n), record, start), wanted)
+pub(crate) fn advance(
+    rt: &impl Print,
+    b: Bench,
+    n: u64,
+    record: &mut [u8],
+    start: usize,
+    wanted: u64,
+) -> io::Result<Bench> {
+    say(rt, "; advance ")?;
+    say_number(rt, n)?;
+    say(rt, " into ")?;
+    say_number(rt, record.len() as u64)?;
+    say(rt, " bytes from ")?;
+    say_number(rt, start as u64)?;
+    after(rt, b, b.table.advance(Span(n), record, start), wanted)
 }
 
 // The record as it is now.
-pub(crate) fn holds(b: Bench, found: &[u8], wanted: &[u8]) -> Bench {
-    say(b"; the record holds");
-    let shown = show_slots(found, wanted);
-    let long = compare(found.len() as u64, wanted.len() as u64);
-    judged(b, shown & long)
+pub(crate) fn holds(rt: &impl Print, b: Bench, found: &[u8], wanted: &[u8]) -> io::Result<Bench> {
+    say(rt, "; the record holds")?;
+    let shown = show_slots(rt, found, wanted)?;
+    let long = compare(rt, found.len() as u64, wanted.len() as u64)?;
+    Ok(judged(b, shown & long))
 }
 
 // The election: whose slot comes next.
-pub(crate) fn election(b: Bench, wanted: u64, place: u64) -> Bench {
-    say(b"; election");
+pub(crate) fn election(rt: &impl Print, b: Bench, wanted: u64, place: u64) -> io::Result<Bench> {
+    say(rt, "; election")?;
     let choice = b.table.election();
-    let answered = heard(choice.number, wanted);
-    let named = compare(choice.place, place);
-    judged(b, answered & named)
+    let answered = heard(rt, choice.number, wanted)?;
+    let named = compare(rt, choice.place, place)?;
+    Ok(judged(b, answered & named))
 }
 
 // One slot.
-pub(crate) fn slot(b: Bench, wanted: u64, place: u64) -> Bench {
-    say(b"; slot");
+pub(crate) fn slot(rt: &impl Print, b: Bench, wanted: u64, place: u64) -> io::Result<Bench> {
+    say(rt, "; slot")?;
     let turn = b.table.slot();
     let table = turn.table;
-    let answered = heard(turn.number, wanted);
-    let named = compare(turn.place, place);
-    Bench {
+    let answered = heard(rt, turn.number, wanted)?;
+    let named = compare(rt, turn.place, place)?;
+    Ok(Bench {
         table,
         right: b.right & answered & named,
-    }
+    })
 }
 
 // The clock.
-pub(crate) fn clock(b: Bench, wanted: u64) -> Bench {
-    say(b"; clock ");
-    figure(b, b.table.now.0, wanted)
+pub(crate) fn clock(rt: &impl Print, b: Bench, wanted: u64) -> io::Result<Bench> {
+    say(rt, "; clock ")?;
+    figure(rt, b, b.table.now.0, wanted)
 }
 
 // How the last job of the place ended.
-pub(crate) fn ending(b: Bench, place: u64, wanted: u64) -> Bench {
+pub(crate) fn ending(rt: &impl Print, b: Bench, place: u64, wanted: u64) -> io::Result<Bench> {
     if PLACES as u64 <= place {
-        return b;
+        return Ok(b);
     }
     let table = b.table;
     let p = table.places[place as usize];
-    say(b"; ending of ");
-    say_number(place);
-    say(b" is ");
-    figure(b, p.ending, wanted)
+    say(rt, "; ending of ")?;
+    say_number(rt, place)?;
+    say(rt, " is ")?;
+    figure(rt, b, p.ending, wanted)
 }
 
 // The table by hand: all slots so far were idle, and the clock is here.
-pub(crate) fn all_idle_until(b: Bench, tick: u64) -> Bench {
-    say(b"; by hand, all idle until ");
-    say_number(tick);
+pub(crate) fn all_idle_until(rt: &impl Print, b: Bench, tick: u64) -> io::Result<Bench> {
+    say(rt, "; by hand, all idle until ")?;
+    say_number(rt, tick)?;
     let mut table = b.table;
     let now = Instant(tick);
     let idle = Span(tick);
     table.now = now;
     table.idle = idle;
-    Bench {
+    Ok(Bench {
         table,
         right: b.right,
-    }
+    })
 }
 
 // The table of zeros, as a refused set-up hands it back.
-pub(crate) fn zeros(b: Bench) -> Bench {
-    say(b"; set up with policy 3");
-    after(b, Table::set_up(3), NO_POLICY)
+pub(crate) fn zeros(rt: &impl Print, b: Bench) -> io::Result<Bench> {
+    say(rt, "; set up with policy 3")?;
+    after(rt, b, Table::set_up(3), NO_POLICY)
 }
 
 // Whether the whole table is as it was.
-pub(crate) fn unchanged(b: Bench, before: Table) -> Bench {
+pub(crate) fn unchanged(rt: &impl Print, b: Bench, before: Table) -> io::Result<Bench> {
     let right = same_table(b.table, before);
     if right {
-        say(b"; nothing changed");
+        say(rt, "; nothing changed")?;
     } else {
-        say(b" [MISMATCH: the notebook says that nothing changed]");
+        say(rt, " [MISMATCH: the notebook says that nothing changed]")?;
     }
-    judged(b, right)
+    Ok(judged(b, right))
 }
 
 fn same_place(p: Place, q: Place) -> bool {

@@ -1,5 +1,5 @@
 -- The election of a sound table is whom the rules elect.
-use Rattle.std.proofs.Common.{refl, sym, ap, ◌∙◌, arith}
+use Rattle.std.proofs.Common.{arith}
 use Rattle.rules.specs.Call.{judge, checks, refusal, called, named_by}
 use Rattle.table.proofs.Table.election.Goals as goal
 

@@ -1,5 +1,5 @@
 -- The code asks for the clauses in turn.
-use Rattle.std.proofs.Common.{◌≡◌, not, refl, sym, ap, ◌∙◌, length, arith, rules}
+use Rattle.std.proofs.Common.{not, refl, sym, ap, ◌∙◌, rules}
 use borrow.Author.Tests.{eq-eqb, ne_eqb}
 use Rattle.table.specs.Dress.{ruled}
 use Rattle.table.proofs.Laws.{at_yes, at_no}

@@ -1,5 +1,4 @@
 use Rattle.std.proofs.Common.{◌≡◌, sym, ◌∙◌, arith}
-use borrow.Author.Tests.{not-true, not-false}
 use Rattle.rules.specs.Numbers.{place_count}
 use Rattle.rules.specs.Fit.{sums_fit, fits_by_sums}
 use Rattle.table.proofs.Loops.{each_none, each_next, each_stop}

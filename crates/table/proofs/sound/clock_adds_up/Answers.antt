@@ -3,8 +3,7 @@ use borrow.Author.Tests.{ne_eqb}
 use Rattle.rules.specs.Numbers.{place_count}
 use Rattle.rules.specs.Sound.{totals}
 use Rattle.table.specs.Dress.{ruled}
-use Rattle.table.proofs.Laws.{eqb_same}
-use Rattle.table.proofs.Loops.{left_all, left_next, left_stop, left_end}
+use Rattle.table.proofs.Loops.{left_all, left_next, left_stop}
 use Rattle.table.proofs.sound.clock_adds_up.Goals as goal
 
 pub loop-i-init : goal.loop-i-init
