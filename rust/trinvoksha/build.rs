@@ -1,5 +1,5 @@
 //! Links the proved library, `libboard.a`: from the folder that `TRINVOKSHA_LIB_DIR` names, by an absolute path, or else from where
-//! `rt staticlib board` writes it in this repository.
+//! `rt lib` in crates/board writes it in this repository.
 
 use std::env;
 use std::path::{Path, PathBuf};
@@ -8,7 +8,7 @@ use std::process::exit;
 fn folder() -> PathBuf {
     match env::var_os("TRINVOKSHA_LIB_DIR") {
         Some(folder) => PathBuf::from(folder),
-        None => Path::new(env!("CARGO_MANIFEST_DIR")).join("../../target/staticlib"),
+        None => Path::new(env!("CARGO_MANIFEST_DIR")).join("../../crates/board/out"),
     }
 }
 
@@ -27,7 +27,7 @@ fn main() {
     let archive = folder.join("libboard.a");
     println!("cargo:rerun-if-changed={}", archive.display());
     if !archive.is_file() {
-        eprintln!("There is no {}. Run `rt staticlib board`, or name its folder in TRINVOKSHA_LIB_DIR.", archive.display());
+        eprintln!("There is no {}. Run `rt lib` in crates/board, or name its folder in TRINVOKSHA_LIB_DIR.", archive.display());
         exit(1);
     }
     println!("cargo:rustc-link-search=native={}", folder.display());
