@@ -1,3 +1,2 @@
-pub mod Tests
-pub mod Marks
+pub mod Named
 pub mod Pinned

@@ -1,10 +1,10 @@
 -- The trial of the layout: which mark every field holds.
-use Rattle.std.specs.Prelude.{◌≡◌, ◌⊎◌, Bool, true, false, List, [], ◌∷◌, ◌++◌, ℕ, zero, suc, ◌+◌, ◌*◌}
+use Rattle.std.specs.Prelude.{◌≡◌, ◌⊎◌, List, [], ◌∷◌, ◌++◌, ℕ, zero, suc, ◌+◌, ◌*◌}
 use Rattle.time.specs.Kinds.{instant, span}
 use Rattle.rules.specs.declared.Place.{Place}
 use Rattle.rules.specs.Numbers.{place_count}
 use Rattle.table.specs.declared.Table.{Table}
-use Rattle.table.specs.declared.Turn.{Turn}
+use Rattle.board.specs.declared.crossing.Turn.{Turn}
 
 -- the version of the layout
 abbrev pub Version : ℕ → Type 0
@@ -48,10 +48,6 @@ marked_turn = record { number = mark 1; place = mark 2; table = marked_table }
 
 abbrev pub Marked : Turn → Type 0
 Marked r = r ≡ marked_turn
-
--- the test tells whether it is so
-abbrev pub Tells : Type 0 → Bool → Type 0
-Tells So b = (So × (b ≡ true)) ⊎ ((So → ⊥) × (b ≡ false))
 
 -- 1 of the marked turn, 0 of any other
 abbrev pub MarkedNumber : Turn → ℕ → Type 0

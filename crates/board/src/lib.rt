@@ -1,21 +1,24 @@
 // The scheduler on a board: every call of the crate table under a name that C and Rust link, and the trial of the layout.
 //
-// What is here: the calls and the soundness test, each as it stands in the crate table; and, in layout.rt, three functions by which a
+// What is here: the calls and the soundness test of the crate table, their answers in numbers; and, in layout.rt, three functions by which a
 // program sees that it declares the structs as this library does. include/trinvoksha.h declares them all for C, rust/trinvoksha for
 // Rust.
-// What is proved: each call meets the contract of the crate table, so every promise of the crate rules holds of the library; what the
-// trial writes and reads is pinned in every field.
+// What is proved: each call gives what the rules say, in numbers (specs/Crossing.antt cites `called` of the crate rules), so every promise of
+// the crate rules holds of the library; what the trial writes and reads is pinned in every field.
+// The names, the flat figures and the numbers are those of the header, so each call is a line of its own that passes them on.
 // What a caller should know: nothing has to be checked first. Every pattern of numbers is a table, and one that is not sound is answered
 // with 1. What a caller in another language owes is written in the header.
 
 #![tactic(auto)]
 
-ghost use Rattle.table.specs.Dress.{SetUpGives, OpenGives, CloseGives, ArriveGives, DepartGives, ElectionGives, SlotGives, AdvanceGives};
+ghost use Rattle.board.specs.Crossing.{SetUpGives, OpenGives, CloseGives, ArriveGives, DepartGives, ElectionGives, SlotGives, AdvanceGives};
 ghost use Rattle.board.specs.Sound.{SoundNumber};
 
-use table::{Answer, Choice, Table, Turn};
+pub use crossing::{Answer, Choice, Turn};
+use table::{Request, Reserve, Table};
 use time::Span;
 
+mod crossing;
 mod layout;
 
 // A fresh table under this policy: 1 earliest deadline, 2 fixed priority.
@@ -23,7 +26,7 @@ mod layout;
 pub extern "C" fn trinvoksha_set_up(policy: u64) -> Answer
     ensures { SetUpGives policy result }
 {
-    Table::set_up(policy)
+    Table::set_up(policy).into()
 }
 
 // Opens the place as a reserve of this level, cap and gap.
@@ -37,7 +40,7 @@ pub extern "C" fn trinvoksha_open(
 ) -> Answer
     ensures { OpenGives table place level cap gap result }
 {
-    table.open(place, level, cap, gap)
+    table.open(place, Reserve { level, cap, gap }).into()
 }
 
 // Closes the place: it returns to zeros, its total kept.
@@ -45,7 +48,7 @@ pub extern "C" fn trinvoksha_open(
 pub extern "C" fn trinvoksha_close(table: Table, place: u64) -> Answer
     ensures { CloseGives table place result }
 {
-    table.close(place)
+    table.close(place).into()
 }
 
 // A job arrives at the place, asks for this many slots and wants them within this many ticks.
@@ -53,7 +56,7 @@ pub extern "C" fn trinvoksha_close(table: Table, place: u64) -> Answer
 pub extern "C" fn trinvoksha_arrive(table: Table, place: u64, budget: Span, away: Span) -> Answer
     ensures { ArriveGives table place budget away result }
 {
-    table.arrive(place, budget, away)
+    table.arrive(place, Request { budget, away }).into()
 }
 
 // The job of the place is withdrawn: gone with ending 1.
@@ -61,23 +64,25 @@ pub extern "C" fn trinvoksha_arrive(table: Table, place: u64, budget: Span, away
 pub extern "C" fn trinvoksha_depart(table: Table, place: u64) -> Answer
     ensures { DepartGives table place result }
 {
-    table.depart(place)
+    table.depart(place).into()
 }
 
 // Whose slot comes next. Asking changes nothing.
+#[tactic(auto, using(crate::proofs::Named::choice_named))]
 #[unsafe(no_mangle)]
 pub extern "C" fn trinvoksha_election(table: Table) -> Choice
     ensures { ElectionGives table result }
 {
-    table.election()
+    table.election().into()
 }
 
 // One slot: whose it was, and the table after it.
+#[tactic(auto, using(crate::proofs::Named::turn_named))]
 #[unsafe(no_mangle)]
 pub extern "C" fn trinvoksha_slot(table: Table) -> Turn
     ensures { SlotGives table result }
 {
-    table.slot()
+    table.slot().into()
 }
 
 // n slots, each written into the record from the start on; no other byte changes.
@@ -90,7 +95,7 @@ pub extern "C" fn trinvoksha_advance(
 ) -> Answer
     ensures { AdvanceGives table n slots.old start result slots.new }
 {
-    table.advance(n, slots, start)
+    table.advance(n, slots, start).into()
 }
 
 // Whether the table is sound: 1 or 0. A whole word, as every number of the table is, so that no caller reads bits that were left over.

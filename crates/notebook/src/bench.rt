@@ -1,318 +1,234 @@
 // The bench: a table under trial. Each step makes a real call, prints it and what was answered, and compares with what the notebook
-// says; a mismatch is named where it happens.
+// says; a mismatch is named where it happens. Steps take the figures flat, as the notebook writes them: a struct for each pair is no plainer.
 
-use rules::{DONE, FIXED_PRIORITY, NO_POLICY, PLACES, Place};
+use rules::{Ending, Policy, Refusal};
 use std::io;
-use table::{Answer, Table};
+use table::{Answer, Request, Reserve, Table, named_number, number_of};
 use time::{Instant, Span};
 
-#[derive(Clone, Copy)]
-pub(crate) struct Bench {
+#[derive(Drop)]
+pub(crate) struct Bench<'a, P: Print> {
+    // where it prints
+    rt: &'a P,
     pub table: Table,
     // whether all was as the notebook says so far
-    pub right: bool,
+    right: bool,
 }
 
-pub(crate) fn say(rt: &impl Print, text: &str) -> io::Result<()> {
-    print!(rt; "{text}")
-}
-
-pub(crate) fn say_number(rt: &impl Print, n: u64) -> io::Result<()> {
-    print!(rt; "{n}")
-}
-
-// Prints what was found where the notebook says otherwise; whether it is the same.
-fn compare(rt: &impl Print, found: u64, wanted: u64) -> io::Result<bool> {
-    if found == wanted {
-        return Ok(true);
-    }
-    say(rt, " [MISMATCH: the notebook says ")?;
-    say_number(rt, wanted)?;
-    say(rt, "]")?;
-    Ok(false)
-}
-
-fn judged(b: Bench, right: bool) -> Bench {
-    let table = b.table;
-    Bench {
-        table,
-        right: b.right & right,
+// The reserve of these figures.
+fn reserve(level: u64, cap: u64, gap: u64) -> Reserve {
+    Reserve {
+        level,
+        cap: Span(cap),
+        gap: Span(gap),
     }
 }
 
-// Prints a figure, and compares it.
-fn figure(rt: &impl Print, b: Bench, found: u64, wanted: u64) -> io::Result<Bench> {
-    say_number(rt, found)?;
-    let right = compare(rt, found, wanted)?;
-    Ok(judged(b, right))
-}
-
-// Prints the answer of a call, and compares it.
-fn heard(rt: &impl Print, number: u64, wanted: u64) -> io::Result<bool> {
-    if number == DONE {
-        say(rt, " done")?;
-    } else {
-        say(rt, " refused with ")?;
-        say_number(rt, number)?;
-    }
-    compare(rt, number, wanted)
-}
-
-fn after(rt: &impl Print, b: Bench, a: Answer, wanted: u64) -> io::Result<Bench> {
-    let right = heard(rt, a.number, wanted)?;
-    let table = a.table;
-    Ok(Bench {
-        table,
-        right: b.right & right,
-    })
-}
-
-// A fresh table under the policy, with the three reserves of the notebook: place 0 has C 3, T 10; place 1 has C 4, T 20; place 2 has
-// C 1, T 5. Under policy 2 place 0 has level 5 and place 1 level 2.
-pub(crate) fn begin(rt: &impl Print, name: &str, policy: u64) -> io::Result<Bench> {
-    say(rt, name)?;
-    say(rt, ". Policy ")?;
-    say_number(rt, policy)?;
-    let mut level0: u64 = 0;
-    let mut level1: u64 = 0;
-    if policy == FIXED_PRIORITY {
-        level0 = 5;
-        level1 = 2;
-    }
-    let fresh = Table::set_up(policy);
-    let a = fresh.table.open(0, level0, Span(3), Span(10));
-    let b = a.table.open(1, level1, Span(4), Span(20));
-    let c = b.table.open(2, 0, Span(1), Span(5));
-    let table = c.table;
-    let right = (fresh.number == DONE)
-        & (a.number == DONE)
-        & (b.number == DONE)
-        & (c.number == DONE);
-    if !right {
-        say(rt, " [MISMATCH: the set-up or an open was refused]")?;
-    }
-    Ok(Bench { table, right })
-}
-
-// Ends the line; whether all was as the notebook says.
-pub(crate) fn end(rt: &impl Print, b: Bench) -> io::Result<bool> {
-    if b.right {
-        say(rt, ". As the notebook says.\n")?;
-    } else {
-        say(rt, ". NOT as the notebook says.\n")?;
-    }
-    Ok(b.right)
-}
-
-pub(crate) fn open(
-    rt: &impl Print,
-    b: Bench,
-    place: u64,
-    level: u64,
-    cap: u64,
-    gap: u64,
-    wanted: u64,
-) -> io::Result<Bench> {
-    say(rt, "; open ")?;
-    say_number(rt, place)?;
-    after(
-        rt,
-        b,
-        b.table.open(place, level, Span(cap), Span(gap)),
-        wanted,
-    )
-}
-
-pub(crate) fn close(rt: &impl Print, b: Bench, place: u64, wanted: u64) -> io::Result<Bench> {
-    say(rt, "; close ")?;
-    say_number(rt, place)?;
-    after(rt, b, b.table.close(place), wanted)
-}
-
-pub(crate) fn arrive(
-    rt: &impl Print,
-    b: Bench,
-    place: u64,
-    budget: u64,
-    away: u64,
-    wanted: u64,
-) -> io::Result<Bench> {
-    say(rt, "; arrive ")?;
-    say_number(rt, place)?;
-    say(rt, " (")?;
-    say_number(rt, budget)?;
-    say(rt, ", ")?;
-    say_number(rt, away)?;
-    say(rt, ")")?;
-    after(
-        rt,
-        b,
-        b.table.arrive(place, Span(budget), Span(away)),
-        wanted,
-    )
-}
-
-pub(crate) fn depart(rt: &impl Print, b: Bench, place: u64, wanted: u64) -> io::Result<Bench> {
-    say(rt, "; depart ")?;
-    say_number(rt, place)?;
-    after(rt, b, b.table.depart(place), wanted)
-}
-
-// Prints a slot of a record, and compares it.
-fn show_slot(rt: &impl Print, found: u8, wanted: u8) -> io::Result<bool> {
-    say(rt, " ")?;
-    say_number(rt, found as u64)?;
-    compare(rt, found as u64, wanted as u64)
-}
-
-// Prints as many slots of a record as are wanted, and compares each.
-fn show_slots(rt: &impl Print, found: &[u8], wanted: &[u8]) -> io::Result<bool> {
-    let mut right = true;
-    let mut i: usize = 0;
-    while i < wanted.len() {
-        if i < found.len() {
-            right = show_slot(rt, found[i], wanted[i])? & right;
+impl<'a, P: Print> Bench<'a, P> {
+    // A fresh table under the policy, with the three reserves of the notebook: place 0 has C 3, T 10; place 1 has C 4, T 20; place 2
+    // has C 1, T 5. Under policy 2 place 0 has level 5 and place 1 level 2.
+    pub(crate) fn new(rt: &'a P, name: &str, policy: Policy) -> io::Result<Self> {
+        let number = policy as u64;
+        print!(rt; "{name}. Policy {number}")?;
+        let (level0, level1) = if policy == Policy::FixedPriority {
+            (5, 2)
+        } else {
+            (0, 0)
+        };
+        let fresh = Table::set_up(number);
+        let first = fresh.table.open(0, reserve(level0, 3, 10));
+        let second = first.table.open(1, reserve(level1, 4, 20));
+        let third = second.table.open(2, reserve(0, 1, 5));
+        let right = [fresh, first, second, third]
+            .iter()
+            .all(|answer| answer.outcome.is_ok());
+        if !right {
+            print!(rt; " [MISMATCH: the set-up or an open was refused]")?;
         }
-        i += 1;
+        Ok(Bench {
+            rt,
+            table: third.table,
+            right,
+        })
     }
-    Ok(right)
-}
 
-// As many slots as are wanted, into a record of sixteen bytes.
-pub(crate) fn slots(rt: &impl Print, b: Bench, wanted: &[u8]) -> io::Result<Bench> {
-    let mut found = [9u8; 16];
-    say(rt, "; slots")?;
-    let a = b.table.advance(Span(wanted.len() as u64), &mut found, 0);
-    let table = a.table;
-    let shown = show_slots(rt, &found, wanted)?;
-    let answered = compare(rt, a.number, DONE)?;
-    Ok(Bench {
-        table,
-        right: b.right & shown & answered,
-    })
-}
-
-// An advance into a record whose bytes do not matter.
-pub(crate) fn advance(
-    rt: &impl Print,
-    b: Bench,
-    n: u64,
-    record: &mut [u8],
-    start: usize,
-    wanted: u64,
-) -> io::Result<Bench> {
-    say(rt, "; advance ")?;
-    say_number(rt, n)?;
-    say(rt, " into ")?;
-    say_number(rt, record.len() as u64)?;
-    say(rt, " bytes from ")?;
-    say_number(rt, start as u64)?;
-    after(rt, b, b.table.advance(Span(n), record, start), wanted)
-}
-
-// The record as it is now.
-pub(crate) fn holds(rt: &impl Print, b: Bench, found: &[u8], wanted: &[u8]) -> io::Result<Bench> {
-    say(rt, "; the record holds")?;
-    let shown = show_slots(rt, found, wanted)?;
-    let long = compare(rt, found.len() as u64, wanted.len() as u64)?;
-    Ok(judged(b, shown & long))
-}
-
-// The election: whose slot comes next.
-pub(crate) fn election(rt: &impl Print, b: Bench, wanted: u64, place: u64) -> io::Result<Bench> {
-    say(rt, "; election")?;
-    let choice = b.table.election();
-    let answered = heard(rt, choice.number, wanted)?;
-    let named = compare(rt, choice.place, place)?;
-    Ok(judged(b, answered & named))
-}
-
-// One slot.
-pub(crate) fn slot(rt: &impl Print, b: Bench, wanted: u64, place: u64) -> io::Result<Bench> {
-    say(rt, "; slot")?;
-    let turn = b.table.slot();
-    let table = turn.table;
-    let answered = heard(rt, turn.number, wanted)?;
-    let named = compare(rt, turn.place, place)?;
-    Ok(Bench {
-        table,
-        right: b.right & answered & named,
-    })
-}
-
-// The clock.
-pub(crate) fn clock(rt: &impl Print, b: Bench, wanted: u64) -> io::Result<Bench> {
-    say(rt, "; clock ")?;
-    figure(rt, b, b.table.now.0, wanted)
-}
-
-// How the last job of the place ended.
-pub(crate) fn ending(rt: &impl Print, b: Bench, place: u64, wanted: u64) -> io::Result<Bench> {
-    if PLACES as u64 <= place {
-        return Ok(b);
+    // Ends the line; whether all was as the notebook says.
+    pub(crate) fn end(self) -> io::Result<bool> {
+        if self.right {
+            println!(self.rt; ". As the notebook says.")?;
+        } else {
+            println!(self.rt; ". NOT as the notebook says.")?;
+        }
+        Ok(self.right)
     }
-    let table = b.table;
-    let p = table.places[place as usize];
-    say(rt, "; ending of ")?;
-    say_number(rt, place)?;
-    say(rt, " is ")?;
-    figure(rt, b, p.ending, wanted)
-}
 
-// The table by hand: all slots so far were idle, and the clock is here.
-pub(crate) fn all_idle_until(rt: &impl Print, b: Bench, tick: u64) -> io::Result<Bench> {
-    say(rt, "; by hand, all idle until ")?;
-    say_number(rt, tick)?;
-    let mut table = b.table;
-    let now = Instant(tick);
-    let idle = Span(tick);
-    table.now = now;
-    table.idle = idle;
-    Ok(Bench {
-        table,
-        right: b.right,
-    })
-}
-
-// The table of zeros, as a refused set-up hands it back.
-pub(crate) fn zeros(rt: &impl Print, b: Bench) -> io::Result<Bench> {
-    say(rt, "; set up with policy 3")?;
-    after(rt, b, Table::set_up(3), NO_POLICY)
-}
-
-// Whether the whole table is as it was.
-pub(crate) fn unchanged(rt: &impl Print, b: Bench, before: Table) -> io::Result<Bench> {
-    let right = same_table(b.table, before);
-    if right {
-        say(rt, "; nothing changed")?;
-    } else {
-        say(rt, " [MISMATCH: the notebook says that nothing changed]")?;
+    // Where something else was found than the notebook says, prints what it says and keeps that not all was right.
+    fn compare(&mut self, found: u64, wanted: u64) -> io::Result<()> {
+        if found != wanted {
+            self.right = false;
+            print!(self.rt; " [MISMATCH: the notebook says {wanted}]")?;
+        }
+        Ok(())
     }
-    Ok(judged(b, right))
-}
 
-fn same_place(p: Place, q: Place) -> bool {
-    (p.opened == q.opened)
-        & (p.level == q.level)
-        & (p.cap.0 == q.cap.0)
-        & (p.gap.0 == q.gap.0)
-        & (p.next.0 == q.next.0)
-        & (p.live == q.live)
-        & (p.budget.0 == q.budget.0)
-        & (p.remaining.0 == q.remaining.0)
-        & (p.deadline.0 == q.deadline.0)
-        & (p.ending == q.ending)
-        & (p.total.0 == q.total.0)
-}
-
-fn same_table(t: Table, u: Table) -> bool {
-    let mut same = (t.policy == u.policy) & (t.now.0 == u.now.0) & (t.idle.0 == u.idle.0);
-    let mut i: usize = 0;
-    while i < PLACES {
-        let p = t.places[i];
-        let q = u.places[i];
-        same = same_place(p, q) & same;
-        i += 1;
+    // Takes the table that a call handed back, and prints and compares what it came to.
+    fn after(&mut self, answer: Answer<()>, wanted: Result<(), Refusal>) -> io::Result<()> {
+        self.table = answer.table;
+        self.heard(&answer.outcome, &wanted)
     }
-    same
+
+    // Prints and compares what a call came to.
+    fn heard<T>(
+        &mut self,
+        outcome: &Result<T, Refusal>,
+        wanted: &Result<T, Refusal>,
+    ) -> io::Result<()> {
+        match outcome {
+            Ok(_) => print!(self.rt; " done")?,
+            Err(refusal) => print!(self.rt; " refused with {}", *refusal as u64)?,
+        }
+        self.compare(number_of(outcome), number_of(wanted))
+    }
+
+    pub(crate) fn open(
+        &mut self,
+        place: u64,
+        level: u64,
+        cap: u64,
+        gap: u64,
+        wanted: Result<(), Refusal>,
+    ) -> io::Result<()> {
+        print!(self.rt; "; open {place}")?;
+        self.after(self.table.open(place, reserve(level, cap, gap)), wanted)
+    }
+
+    pub(crate) fn close(&mut self, place: u64, wanted: Result<(), Refusal>) -> io::Result<()> {
+        print!(self.rt; "; close {place}")?;
+        self.after(self.table.close(place), wanted)
+    }
+
+    pub(crate) fn arrive(
+        &mut self,
+        place: u64,
+        budget: u64,
+        away: u64,
+        wanted: Result<(), Refusal>,
+    ) -> io::Result<()> {
+        print!(self.rt; "; arrive {place} ({budget}, {away})")?;
+        let request = Request {
+            budget: Span(budget),
+            away: Span(away),
+        };
+        self.after(self.table.arrive(place, request), wanted)
+    }
+
+    pub(crate) fn depart(&mut self, place: u64, wanted: Result<(), Refusal>) -> io::Result<()> {
+        print!(self.rt; "; depart {place}")?;
+        self.after(self.table.depart(place), wanted)
+    }
+
+    // Prints as many slots of a record as both have, and compares each.
+    fn show_slots(&mut self, found: &[u8], wanted: &[u8]) -> io::Result<()> {
+        for (&found, &wanted) in found.iter().zip(wanted) {
+            print!(self.rt; " {found}")?;
+            self.compare(u64::from(found), u64::from(wanted))?;
+        }
+        Ok(())
+    }
+
+    // As many slots as are wanted, into a record of sixteen bytes.
+    pub(crate) fn slots(&mut self, wanted: &[u8]) -> io::Result<()> {
+        print!(self.rt; "; slots")?;
+        let mut found = [9u8; 16];
+        let answer = self.table.advance(Span(wanted.len() as u64), &mut found, 0);
+        self.table = answer.table;
+        self.show_slots(&found, wanted)?;
+        self.compare(number_of(&answer.outcome), 0)
+    }
+
+    // An advance into a record whose bytes do not matter; the start stands beside it, as in the call.
+    pub(crate) fn advance(
+        &mut self,
+        n: u64,
+        record: &mut [u8],
+        start: usize,
+        wanted: Result<(), Refusal>,
+    ) -> io::Result<()> {
+        let length = record.len();
+        print!(self.rt; "; advance {n} into {length} bytes from {start}")?;
+        self.after(self.table.advance(Span(n), record, start), wanted)
+    }
+
+    // The record as it is now.
+    pub(crate) fn holds(&mut self, found: &[u8], wanted: &[u8]) -> io::Result<()> {
+        print!(self.rt; "; the record holds")?;
+        self.show_slots(found, wanted)?;
+        self.compare(found.len() as u64, wanted.len() as u64)
+    }
+
+    // Prints and compares what an election came to, and compares the place, which is not printed.
+    fn named(
+        &mut self,
+        outcome: Result<Option<usize>, Refusal>,
+        wanted: Result<Option<usize>, Refusal>,
+    ) -> io::Result<()> {
+        self.heard(&outcome, &wanted)?;
+        self.compare(named_number(&outcome), named_number(&wanted))
+    }
+
+    // The election: whose slot comes next.
+    pub(crate) fn election(&mut self, wanted: Result<Option<usize>, Refusal>) -> io::Result<()> {
+        print!(self.rt; "; election")?;
+        let outcome = self.table.election();
+        self.named(outcome, wanted)
+    }
+
+    // One slot.
+    pub(crate) fn slot(&mut self, wanted: Result<Option<usize>, Refusal>) -> io::Result<()> {
+        print!(self.rt; "; slot")?;
+        let answer = self.table.slot();
+        self.table = answer.table;
+        self.named(answer.outcome, wanted)
+    }
+
+    // The clock.
+    pub(crate) fn clock(&mut self, wanted: u64) -> io::Result<()> {
+        let tick = self.table.now.0;
+        print!(self.rt; "; clock {tick}")?;
+        self.compare(tick, wanted)
+    }
+
+    // How the last job of the place ended; nothing where there is no such place.
+    pub(crate) fn ending(&mut self, place: u64, wanted: Ending) -> io::Result<()> {
+        let Some(p) = self.table.places.get(place as usize) else {
+            return Ok(());
+        };
+        let ending = p.ending;
+        print!(self.rt; "; ending of {place} is {ending}")?;
+        self.compare(ending, wanted as u64)
+    }
+
+    // The table by hand: all slots so far were idle, and the clock is here.
+    pub(crate) fn all_idle_until(&mut self, tick: u64) -> io::Result<()> {
+        print!(self.rt; "; by hand, all idle until {tick}")?;
+        self.table.now = Instant(tick);
+        self.table.idle = Span(tick);
+        Ok(())
+    }
+
+    // The table of zeros, as a refused set-up hands it back.
+    pub(crate) fn zeros(&mut self) -> io::Result<()> {
+        print!(self.rt; "; set up with policy 3")?;
+        self.after(Table::set_up(3), Err(Refusal::NoPolicy))
+    }
+
+    // Whether the whole table is as it was.
+    pub(crate) fn unchanged(&mut self, before: &Table) -> io::Result<()> {
+        if self.table == *before {
+            print!(self.rt; "; nothing changed")
+        } else {
+            self.right = false;
+            print!(self.rt; " [MISMATCH: the notebook says that nothing changed]")
+        }
+    }
 }

@@ -1,15 +1,12 @@
--- Refusals taken apart: the first that applies counts.
-use mathlib.Core.Path.{◌≡◌, refl, sym, ap, ◌∙◌}
-use mathlib.Core.Bool.{Bool, true, false, cond, ◌&&◌}
-use mathlib.Core.List.{List, [], ◌∷◌}
-use Prim.Native.Nat.{ℕ}
-use native.Mathlib.Omega.{arith}
-use native.Mathlib.Decide.{ℕ_discrete}
-use lib.Dec.{ltb}
-use borrow.Author.Tests.{ltb-true, ne_eqb}
-use Rattle.rules.specs.Table.{Table}
-use Rattle.rules.specs.Call.{Call, Open, Close, Arrive, Depart, Elect, Slot, Advance, judge, checks, refusal, done, refused, called}
-use Rattle.rules.proofs.Tests.{and_left, and_right}
+-- What a call answers, and what it has passed where it is not refused.
+use Rattle.std.proofs.Common.{◌≡◌, ◌≢◌, true, ℕ, ◌+◌, ◌≤◌, ◌<◌, length, arith, ne_eqb, tests}
+use Rattle.std.proofs.lemmas.Bool.{or_parts, not-false, eqb-false}
+use Rattle.std.proofs.lemmas.Bool.Decides.{nat_tests}
+use Rattle.rules.specs.Numbers.{place_count, last_tick, longest_span, last_level, most_slots}
+use Rattle.rules.specs.Table.{Table, at}
+use Rattle.rules.specs.Fit.{fits_by_sums}
+use Rattle.rules.specs.Sound.{sound}
+use Rattle.rules.specs.Call.{Call, Open, Close, Arrive, Depart, Elect, Slot, Advance, arrived, judge, checks, refusal, done, refused, called}
 
 pub called_done : (t : Table) (c : Call) → refusal t c ≡ 0 → called t c ≡ done t c
 unfolding called
@@ -20,39 +17,21 @@ unfolding called
 called_refused t c k e n = rw (← e, ne_eqb k 0 n)
 
 pub answer_is : (t : Table) (c : Call) → (called t c).answer ≡ refusal t c
-answer_is t c = elim (ℕ_discrete (refusal t c) 0) [
-  | yes e ↦ ap (λ r. r.answer) (called_done t c e) ∙ sym e
-  | no n ↦ ap (λ r. r.answer) (called_refused t c (refusal t c) refl n)
-]
+unfolding called
+answer_is t c = grind (arith, nat_tests)
 
--- no test of the list holds
-abbrev pub Clear : List (Bool × ℕ) → Type 0
-Clear [] = Unit {0}
-Clear (c ∷ cs) = (c.0 ≡ false) × Clear cs
+-- what a call that is not refused has passed, in numbers
+abbrev pub Clear : Table → Call → Type 0
+Clear t (Open p level cap gap) = (p < place_count) × (level ≤ last_level) × (1 ≤ cap) × (cap ≤ gap) × (gap ≤ longest_span)
+Clear t (Close p) = (p < place_count) × ((at t p).live ≢ 1) × ((at t p).next.0 ≤ t.now.0)
+Clear t (Arrive p b d) =
+    (p < place_count) × ((at t p).opened ≡ 1) × ((1 ≤ b) × (b ≤ (at t p).cap.0)) × ((1 ≤ d) × (d ≤ longest_span) × (t.now.0 + d ≤ last_tick))
+    × (t.policy ≡ 1 → fits_by_sums (arrived t p b d) ≡ true)
+Clear t (Depart p) = (p < place_count) × ((at t p).live ≡ 1)
+Clear t Elect = Unit {0}
+Clear t Slot = t.now.0 < last_tick
+Clear t (Advance n bytes start) = (n ≤ most_slots) × (t.now.0 + n ≤ last_tick) × (start + n ≤ length bytes)
 
-abbrev nonzero : List (Bool × ℕ) → Bool
-nonzero [] = true
-nonzero (c ∷ cs) = ltb 0 c.1 && nonzero cs
-
-judge_one : (b : Bool) (n r : ℕ) (z : Bool) → (ltb 0 n && z) ≡ true → cond b n r ≡ 0 → (b ≡ false) × (z ≡ true) × (r ≡ 0)
-judge_one true n r z k e = absurd (omega (arith, ltb-true 0 n (and_left (ltb 0 n) z k)))
-judge_one false n r z k e = (refl, and_right (ltb 0 n) z k, e)
-
-judge_clear : (cs : List (Bool × ℕ)) → nonzero cs ≡ true → judge cs ≡ 0 → Clear cs
-unfolding judge
-judge_clear [] z e = tt
-judge_clear (c ∷ cs) z e = let h = judge_one c.0 c.1 (judge cs) (nonzero cs) z e in (h.0, judge_clear cs h.1 h.2)
-
--- a call that is not refused passed each of its checks
-pub passed : (t : Table) (c : Call) → refusal t c ≡ 0 → Clear (checks t c)
-unfolding refusal
-passed t c e = judge_clear (checks t c) (pass c) e
-  where
-    pass : (c : Call) → nonzero (checks t c) ≡ true
-    pass (Open p level cap gap) = unfold checks in refl
-    pass (Close p) = unfold checks in refl
-    pass (Arrive p b d) = unfold checks in refl
-    pass (Depart p) = unfold checks in refl
-    pass Elect = unfold checks in refl
-    pass Slot = unfold checks in refl
-    pass (Advance n bytes start) = unfold checks in refl
+pub passed : (t : Table) (c : Call) → refusal t c ≡ 0 → (sound t ≡ true) × Clear t c
+unfolding refusal checks judge
+passed t c e = grind (arith, tests, or_parts, not-false, eqb-false)

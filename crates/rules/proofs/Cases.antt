@@ -1,5 +1,5 @@
 -- The starred cases hold by computation.
-use mathlib.Core.Path.{refl}
+use Rattle.std.proofs.Common.{refl}
 use Rattle.rules.specs.Tests.{sum, each}
 use Rattle.rules.specs.Election.{number, better, elect, elected}
 use Rattle.rules.specs.Fit.{due, demand, sums_fit, fits_by_sums}

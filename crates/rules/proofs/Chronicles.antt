@@ -1,12 +1,6 @@
 -- The chronicles happen by computation, and so do their premises; that nobody outranks a job is tried at each slot.
-use mathlib.Core.Path.{◌≡◌, refl, ap, ◌∙◌, subst}
-use mathlib.Core.Logic.{⊎_elim}
-use mathlib.Core.Bool.{Bool, true, false, ◌&&◌, ◌||◌, not}
-use mathlib.Core.List.{List, [], ◌∷◌, ◌++◌, append-nil, append_assoc}
-use Prim.Native.Nat.{ℕ, ◌<◌}
-use native.Mathlib.Omega.{arith}
-use lib.Dec.{ltb, eqb}
-use borrow.Author.Tests.{eq-eqb, lt-ltb}
+use Rattle.std.proofs.Common.{◌≡◌, refl, ap, ◌∙◌, subst, Bool, true, ◌&&◌, ◌||◌, not, List, [], ◌∷◌, ◌++◌, append-nil, append_assoc, ℕ, arith, ltb, eqb}
+use Rattle.std.proofs.lemmas.Bool.Decides.{nat_tests}
 use Rattle.rules.specs.Numbers.{place_count}
 use Rattle.rules.specs.Tests.{sum, each}
 use Rattle.rules.specs.Election.{number, better, elect, elected}
@@ -17,7 +11,6 @@ use Rattle.rules.specs.Call.{judge, checks, refusal, effect, named_by, lent, wri
 use Rattle.rules.specs.History.{Happening, Did, Gave, did, happened, history_from, table_from, ticks, slots_naming, until, arrives_at, departs_from, closes, job_slots, withdrawn, undisturbed, place_of, entered, ticked, unless_overdue, noted, ledger_from, ledger}
 use Rattle.rules.specs.Demands.{NoneOutranks}
 use Rattle.rules.specs.Chronicles.{answers_from, told, expected, outranking, ChroniclesHappen, TheTakenJobIsServed, TheRivalIsTurnedAway, TheGapIsKept, TheOutrankedJobIsLate, TheWithdrawnJobLeaves, TheUnoutrankedJobIsServed}
-use Rattle.rules.proofs.Tests.{clash}
 use Rattle.rules.proofs.Sums.{each_true}
 
 pub chronicles_happen : ChroniclesHappen
@@ -51,9 +44,9 @@ BeforeEachSlot P since (Did x ∷ hs) = BeforeEachSlot P (since ++ (Did x ∷ []
 BeforeEachSlot P since (Gave s ∷ hs) = P since × BeforeEachSlot P (since ++ (Gave s ∷ [])) hs
 
 at_each_split : (P : List Happening → Type 0) (hs past since later : List Happening) (s : ℕ) → BeforeEachSlot P past hs → hs ≡ since ++ (Gave s ∷ later) → P (past ++ since)
-at_each_split P [] past [] later s b e = let z : ◌≡◌ {A = ℕ} 0 1 = cc in absurd (omega arith)
-at_each_split P [] past (h ∷ since) later s b e = let z : ◌≡◌ {A = ℕ} 0 1 = cc in absurd (omega arith)
-at_each_split P (Did x ∷ hs) past [] later s b e = let z : ◌≡◌ {A = ℕ} 0 1 = cc in absurd (omega arith)
+at_each_split P [] past [] later s b e = cc
+at_each_split P [] past (h ∷ since) later s b e = cc
+at_each_split P (Did x ∷ hs) past [] later s b e = cc
 at_each_split P (Gave n ∷ hs) past [] later s b e = rw append-nil b.0
 at_each_split P (Did x ∷ hs) past (h ∷ since) later s b e =
     let i : Did x ≡ h = cc in
@@ -68,13 +61,7 @@ outranks h q p = ltb (ledger 2 q h).level (ledger 2 p h).level || (eqb (ledger 2
 
 none_by_test : (h : List Happening) (p : ℕ) → each (λ q. not ((ledger 2 q h).live && outranks h q p)) place_count ≡ true → NoneOutranks h p
 unfolding outranks
-none_by_test h p e q l v r =
-    let t = rw v at (each_true (λ q. not ((ledger 2 q h).live && outranks h q p)) place_count e q l) in
-    ⊎_elim (λ g. clash t (rw (lt-ltb (ledger 2 q h).level (ledger 2 p h).level g))) (λ g. clash t (no_tie (ltb (ledger 2 q h).level (ledger 2 p h).level) g)) r
-  where
-    no_tie : (b : Bool) → ((ledger 2 q h).level ≡ (ledger 2 p h).level) × (q < p) → not (b || (eqb (ledger 2 q h).level (ledger 2 p h).level && ltb q p)) ≡ false
-    no_tie true g = refl
-    no_tie false g = rw (eq-eqb (ledger 2 q h).level (ledger 2 p h).level g.0, lt-ltb q p g.1)
+none_by_test h p e q l v r = grind (arith, nat_tests, each_true (λ q. not ((ledger 2 q h).live && outranks h q p)) place_count e q l)
 
 abbrev then : List Happening → List Happening
 then l = outranking.before ++ (outranking.arrival ∷ l)

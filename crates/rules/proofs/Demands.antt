@@ -1,41 +1,31 @@
 -- The demands of specs/Demands.antt, each under its name in small letters.
-use mathlib.Core.Path.{◌≡◌, refl, sym, ap, ap₂, ◌∙◌, subst}
-use mathlib.Core.Logic.{inl, inr, ⊎_elim, ◌↔◌}
-use mathlib.Core.Bool.{Bool, true, false}
-use mathlib.Core.List.{List, [], ◌∷◌, ◌++◌, append_assoc}
-use Prim.Native.Nat.{ℕ, ◌+◌, ◌≤◌, ◌<◌}
-use native.Mathlib.Omega.{arith}
-use lib.Dec.{eqb, ltb}
-use lib.ListN.{take}
-use borrow.Author.Tests.{eq-eqb, eqb-true, ltb-false}
+use Rattle.std.proofs.Common.{get_or-set_same, ◌≡◌, sym, ap, ap₂, ◌∙◌, subst, inl, inr, ⊎_elim, ◌↔◌, Bool, true, false, List, [], ◌∷◌, ◌++◌, append_assoc, ℕ, ◌+◌, ◌≤◌, ◌<◌, arith, eq-eqb, eqb-true}
 use Rattle.rules.specs.declared.Place.{Place}
-use Rattle.rules.specs.Numbers.{place_count, idle_byte, longest_span}
-use Rattle.rules.specs.Table.{Table, at}
-use Rattle.rules.specs.Election.{Who, nobody, place, RanksBefore, Elected, goes_to, idles, live_at, rank_at, elected}
+use Rattle.rules.specs.Numbers.{place_count, idle_byte}
+use Rattle.rules.specs.Table.{Table, zero_place, at}
+use Rattle.rules.specs.Election.{Who, RanksBefore, Elected, goes_to, idles, live_at, rank_at, elected}
 use Rattle.rules.specs.Fit.{Serves}
 use Rattle.rules.specs.Sound.{Sound}
-use Rattle.rules.specs.Call.{Call, Arrive, with_job, checks, refusal, effect, called}
-use Rattle.rules.specs.History.{Arrived, Happening, Did, Gave, history, table_after, ticks, slots_naming, until, job_slots, withdrawn, reserve, place_of, ledger}
+use Rattle.rules.specs.Call.{Call, Arrive, with_job, refusal, effect}
+use Rattle.rules.specs.History.{Arrived, Happening, Did, Gave, history, table_after, ticks, slots_naming, until, job_slots, withdrawn, reserve, ledger}
 use Rattle.rules.specs.Promises.{SomePlanServes, Refusals, FirstIs}
 use Rattle.rules.specs.Demands.{SetUp, HistoriesAreSound, figures_of, TheTableHoldsWhatTheHistorySays, rank_in, EverySlotGoesWhereTheRuleSendsIt, NoJobRunsPastItsSlots, NoSlotWithoutAJob, NoReserveStartsTwiceWithinItsGap, SlotsAddUpToTheClock, TotalsAreCounted, ATakenJobIsServed, ATakenJobEndsSpent, NoJobEndsLateByDeadline, SomePlanServesAll, TurnedAwayExactlyWhenNoPlanServesAll, HowAJobEnds, AnUnoutrankedJobIsServed}
-use Rattle.rules.proofs.Tests.{clash, some_fail}
 use Rattle.rules.proofs.Sums.{sum_ext}
-use Rattle.rules.proofs.Answers.{passed}
-use Rattle.rules.proofs.Stores.{put_it}
+use Rattle.rules.proofs.Answers.{answer_is, passed}
 use Rattle.rules.proofs.Kept.{elected_ok, live_bounds}
-use Rattle.rules.proofs.Promises.{each_refusal_exactly_when_the_paper_says}
-use Rattle.rules.proofs.Refused.{lacks, last_row, sound_not_one}
+use Rattle.rules.proofs.Promises.{each_refusal_exactly_when_the_paper_says, fresh_at}
+use Rattle.rules.proofs.Refused.{sound_not_one}
 use Rattle.rules.proofs.Histories.{call_of, AllAllowed, after, after_join, allowed_join, allowed_split, next_sound, after_sound, after_policy, after_clock, deed_clock, next_policy}
-use Rattle.rules.proofs.Ledgers.{deed_inside, ledger_in_time}
-use Rattle.rules.proofs.Starts.{one_ok, two_ok, fresh_at, start, start_is, start_sound, ledger_is, parts, now_is, table_is, table_sound}
-use Rattle.rules.proofs.Jobs.{off_row, job_bounded, until_fewer, until_allowed, HadAll, job_served, Fate, still_live, has_left, was_spent, was_late, job_fate, unoutranked_served}
+use Rattle.rules.proofs.Ledgers.{ledger_in_time}
+use Rattle.rules.proofs.Starts.{one_ok, two_ok, start, start_is, start_sound, ledger_is, parts, now_is, table_is, table_sound}
+use Rattle.rules.proofs.Jobs.{off_row, job_bounded, until_fewer, until_allowed, HadAll, job_served, Fate, job_fate, unoutranked_served}
 use Rattle.rules.proofs.Counts.{total_counted, idle_counted}
 use Rattle.rules.proofs.Gaps.{row_waits, arrives_after, arrival_waits}
 
 pub histories_are_sound : HistoriesAreSound
 histories_are_sound policy calls c ok =
     let s = table_sound policy ok calls in
-    (s, λ e. sound_not_one (table_after policy calls) c s ((each_refusal_exactly_when_the_paper_says (table_after policy calls) c 1).0 e))
+    (s, λ e. sound_not_one (table_after policy calls) c s (sym (answer_is (table_after policy calls) c) ∙ e))
 
 pub the_table_holds_what_the_history_says : TheTableHoldsWhatTheHistorySays
 the_table_holds_what_the_history_says policy calls p ok l =
@@ -43,9 +33,7 @@ the_table_holds_what_the_history_says policy calls p ok l =
 
 -- the published rule reads live and key at the places alone
 elected_same : (live live' : ℕ → Bool) (key key' : ℕ → ℕ) (m : ℕ) (w : Who) → ((q : ℕ) → q < m → live q ≡ live' q) → ((q : ℕ) → q < m → key q ≡ key' q) → Elected live key m w → Elected live' key' m w
-elected_same live live' key key' m nobody a b (idles h) = idles (λ q l. sym (a q l) ∙ h q l)
-elected_same live live' key key' m (place p) a b (goes_to l v f) =
-    goes_to l (sym (a p l) ∙ v) (λ q k w r. f q k (a q k ∙ w) (⊎_elim (λ g. inl (omega (arith, b q k, b p l))) (λ g. inr (omega (arith, b q k, b p l, g.0), g.1)) r))
+elected_same live live' key key' m w a b r = grind (arith, goes_to, idles)
 
 pub every_slot_goes_where_the_rule_sends_it : EverySlotGoesWhereTheRuleSendsIt
 every_slot_goes_where_the_rule_sends_it policy calls before rest s ok e =
@@ -78,25 +66,25 @@ record Taken (policy : ℕ) (before rest : List Happening) (p b d : ℕ) : Type 
   in_cap : b ≤ (at (there policy before) p).cap.0
 
 taken : (policy : ℕ) → SetUp policy → (calls : List Call) (before rest : List Happening) (p b d : ℕ) → history policy calls ≡ before ++ (Did (Arrived p b d) ∷ rest) → Taken policy before rest p b d
-unfolding call_of checks effect place_of
+unfolding call_of effect
 taken policy ok calls before rest p b d e =
     let a = parts policy ok calls before (Did (Arrived p b d) ∷ rest) e in
     let t = there policy before in
     let s = after_sound before (start policy) (start_sound policy ok) a.0 in
-    let l = deed_inside t (Arrived p b d) a.1.0 in
-    let j = put_it t p (with_job t.now.0 (at t p) b d) (omega (arith, s.size)) in
+    let c = (passed t (Arrive p b d) a.1.0).1 in
+    let j = get_or-set_same t.places p (with_job t.now.0 (at t p) b d) zero_place (omega (arith, s.size)) in
     let clock = deed_clock t (Arrived p b d) in
     record {
       before_allowed = a.0;
       accepted = a.1.0;
       rest_allowed = a.1.1;
-      inside = l;
+      inside = c.0;
       sound_there = s;
       sound_with = next_sound t (Did (Arrived p b d)) s a.1.0;
       policy_is = next_policy t (Did (Arrived p b d)) ∙ after_policy before (start policy) ∙ ap (λ u. u.policy) (start_is policy ok);
       job = j;
       deadline = ap (λ x. x.deadline.0) j ∙ ap (λ n. n + d) (sym clock);
-      in_cap = ltb-false (at t p).cap.0 b (some_fail (eqb b 0 ∷ ltb (at t p).cap.0 b ∷ eqb d 0 ∷ ltb longest_span d ∷ []) (passed t _ a.1.0).1.1.1.0).1.0;
+      in_cap = c.2.1;
     }
 
 pub no_job_runs_past_its_slots : NoJobRunsPastItsSlots
@@ -186,29 +174,22 @@ plan_same calls p b d = (
     is : (q : ℕ) → q < place_count → ledger 1 q h ≡ figures_of (table_after 1 calls) q
     is q l = the_table_holds_what_the_history_says 1 calls q one_ok l
 
+-- the last refusal of an arrival, and none
+row_nine : (t : Table) (p b d : ℕ) → FirstIs 9 (Refusals t (Arrive p b d)) → ¬ SomePlanServes t p b d
+row_nine t p b d f = grind arith
+
+row_none : (t : Table) (p b d : ℕ) → FirstIs 0 (Refusals t (Arrive p b d)) → ¬ ((t.policy ≡ 1) × ¬ SomePlanServes t p b d)
+row_none t p b d f = grind arith
+
 pub turned_away_exactly_when_no_plan_serves_all : TurnedAwayExactlyWhenNoPlanServesAll
-turned_away_exactly_when_no_plan_serves_all calls p b d choice = (
-  (λ e f. ⊎_elim (λ r. r.0.1 (same.1 f)) (λ r. absurd (omega (arith, r.1))) (last_one 9 refl e)),
-  (λ n. ⊎_elim (λ e. ⊎_elim (λ r. absurd (omega (arith, r.1))) (λ r. absurd (r.0 (policy_one, λ f. n (same.0 f)))) (last_one 0 refl e)) (λ e. e) choice),
-)
-  where
-    t : Table
-    t = table_after 1 calls
-
-    same : SomePlanServes (table_after 1 calls) p b d ↔ SomePlanServesAll (history 1 calls) p b d
-    same = plan_same calls p b d
-
-    policy_one : (table_after 1 calls).policy ≡ 1
-    policy_one = ap (λ u. u.policy) (sym (table_is 1 one_ok calls).1) ∙ after_policy (history 1 calls) (start 1) ∙ ap (λ u. u.policy) (start_is 1 one_ok)
-
-    rows_before : List (ℕ × Type 0)
-    rows_before = take 7 (Refusals (table_after 1 calls) (Arrive p b d))
-
-    nine : ℕ × Type 0
-    nine = (9, ((table_after 1 calls).policy ≡ 1) × ¬ SomePlanServes (table_after 1 calls) p b d)
-
-    last_one : (k : ℕ) → lacks k rows_before ≡ true → (called (table_after 1 calls) (Arrive p b d)).answer ≡ k → FirstIs k (nine ∷ [])
-    last_one k a e = last_row k rows_before nine a ((each_refusal_exactly_when_the_paper_says (table_after 1 calls) (Arrive p b d) k).0 e)
+turned_away_exactly_when_no_plan_serves_all calls p b d choice =
+    let t = table_after 1 calls in
+    let same = plan_same calls p b d in
+    let policy_one : t.policy ≡ 1 = ap (λ u. u.policy) (sym (table_is 1 one_ok calls).1) ∙ after_policy (history 1 calls) (start 1) ∙ ap (λ u. u.policy) (start_is 1 one_ok) in
+    let says = each_refusal_exactly_when_the_paper_says t (Arrive p b d) in (
+      (λ e f. row_nine t p b d ((says 9).0 e) (same.1 f)),
+      (λ n. ⊎_elim (λ e. absurd (row_none t p b d ((says 0).0 e) (policy_one, λ f. n (same.0 f)))) (λ e. e) choice),
+    )
 
 -- how the job of p ended, as the table says it in the end
 abbrev Ends : ℕ → ℕ → ℕ → List Happening → Place → Type 0
@@ -220,15 +201,7 @@ Ends p b d rest x =
 
 -- the four fates exclude one another
 fate_ends : (t : Table) (p b d : ℕ) (rest : List Happening) → (at t p).remaining.0 ≡ b → ((at (after t rest) p).live ≡ 1 → (at (after t rest) p).ending ≡ 0) → Fate t p d rest → Ends p b d rest (at (after t rest) p)
-fate_ends t p b d rest owed zero-live (still_live v w h k) =
-    let z = zero-live v in
-    (((λ q. absurd (omega arith)), (λ q. clash q w)), ((λ q. absurd (omega arith)), (λ q. absurd (omega arith))), ((λ q. absurd (omega arith)), (λ q. absurd (omega (arith, q.1)))), ((λ q. v), (λ q. z)))
-fate_ends t p b d rest owed zero-live (has_left v e w y k) =
-    (((λ q. w), (λ q. e)), ((λ q. absurd (omega arith)), (λ q. absurd (omega arith))), ((λ q. absurd (omega arith)), (λ q. clash y q.0)), ((λ q. absurd (omega arith)), (λ q. absurd (omega arith))))
-fate_ends t p b d rest owed zero-live (was_spent v e w k) =
-    (((λ q. absurd (omega arith)), (λ q. clash q w)), ((λ q. k ∙ owed), (λ q. e)), ((λ q. absurd (omega arith)), (λ q. absurd (omega (arith, q.2)))), ((λ q. absurd (omega arith)), (λ q. absurd (omega arith))))
-fate_ends t p b d rest owed zero-live (was_late v e w y h k) =
-    (((λ q. absurd (omega arith)), (λ q. clash q w)), ((λ q. absurd (omega arith)), (λ q. absurd (omega arith))), ((λ q. (y, h, omega arith)), (λ q. e)), ((λ q. absurd (omega arith)), (λ q. absurd (omega arith))))
+fate_ends t p b d rest owed zero_live f = grind arith
 
 pub how_a_job_ends : HowAJobEnds
 how_a_job_ends calls before rest p b d e u =
@@ -237,7 +210,7 @@ how_a_job_ends calls before rest p b d e u =
     let end_is : after t rest ≡ table_after 2 calls = sym (after_join before (Did (Arrived p b d) ∷ rest) (start 2)) ∙ ap (after (start 2)) (sym e) ∙ (table_is 2 two_ok calls).1 in
     let s = after_sound rest t j.sound_with j.rest_allowed in
     subst (λ v. Ends p b d rest (at v p)) end_is
-    (fate_ends t p b d rest (ap (λ x. x.remaining.0) j.job) (λ v. (live_bounds (after t rest).now.0 (at (after t rest) p) (s.places p j.inside) v).1.ending)
+    (fate_ends t p b d rest (ap (λ x. x.remaining.0) j.job) (λ v. (live_bounds (s.places p j.inside) v).1.ending)
     (job_fate rest t p d j.sound_with j.inside j.rest_allowed u (ap (λ x. x.live) j.job) j.deadline))
 
 pub an_unoutranked_job_is_served : AnUnoutrankedJobIsServed

@@ -1,12 +1,7 @@
 -- What is due by an instant, and why a plan that serves all keeps the sums small: what it gives by d is at most the slots before d.
-use mathlib.Core.Path.{◌≡◌, refl, sym, ap, subst}
-use mathlib.Core.Logic.{◌≢◌}
-use mathlib.Core.Bool.{Bool, true, false, cond, ◌&&◌}
-use Prim.Native.Nat.{ℕ, zero, suc, ◌-◌, ◌≤◌, ◌<◌}
-use native.Mathlib.Omega.{arith}
-use native.Mathlib.Nat.{le_trans}
-use native.Mathlib.Decide.{ℕ_discrete, dec_le}
-use borrow.Author.Tests.{le-leb, lt-leb, eq-eqb, ne_eqb}
+use Rattle.std.proofs.Common.{◌≡◌, refl, sym, ap, subst, ◌≢◌, true, false, ℕ, zero, suc, ◌-◌, ◌≤◌, ◌<◌, arith, le_trans, le-leb, eq-eqb, ne_eqb}
+use Rattle.std.proofs.Math.Decide.{ℕ_discrete}
+use Rattle.std.proofs.lemmas.Bool.Decides.{nat_tests}
 use Rattle.rules.specs.Tests.{sum}
 use Rattle.rules.specs.Election.{Who, nobody, place}
 use Rattle.rules.specs.Fit.{Job, Plan, is_for, slots_for, Fits, due, demand}
@@ -24,25 +19,13 @@ pub due_gone : (d : ℕ) (j : Job) → j.live ≡ false → due d j ≡ 0
 unfolding due
 due_gone d j l = rw l
 
-pub due_later : (d : ℕ) (j : Job) → d < j.deadline → due d j ≡ 0
-unfolding due
-due_later d j h = rw (lt-leb j.deadline d h) (go j.live)
-  where
-    go : (b : Bool) → cond (b && false) j.remaining 0 ≡ 0
-    go true = refl
-    go false = refl
-
 pub data Due (d : ℕ) (j : Job) : Type 0 where
   in_time : j.live ≡ true → j.deadline ≤ d → due d j ≡ j.remaining → Due d j
   not_yet : due d j ≡ 0 → Due d j
 
 pub due_view : (d : ℕ) (j : Job) → Due d j
-due_view d j = go j.live refl (dec_le j.deadline d)
-  where
-    go : (b : Bool) → j.live ≡ b → Dec (j.deadline ≤ d) → Due d j
-    go false e c = not_yet (due_gone d j e)
-    go true e (yes h) = in_time e h (due_in d j e h)
-    go true e (no h) = not_yet (due_later d j (omega arith))
+unfolding due
+due_view d j = grind (arith, nat_tests, in_time, not_yet)
 
 pub for_it : (p : ℕ) → is_for (place p) p ≡ 1
 unfolding is_for
@@ -53,7 +36,7 @@ unfolding is_for
 for_other q p n = rw (ne_eqb q p n)
 
 -- a slot is at most one place's
-for_one : (w : Who) (m : ℕ) → sum (λ p. is_for w p) m ≤ 1
+pub for_one : (w : Who) (m : ℕ) → sum (λ p. is_for w p) m ≤ 1
 unfolding sum is_for
 for_one nobody m = omega (arith, sum_zero (λ p. 0) m (λ p l. refl))
 for_one (place q) zero = omega arith

@@ -1,18 +1,12 @@
 -- A history is a row of happenings, each of which the rules allow at the table where it stands; what is shown of one is shown of all.
-use mathlib.Core.Path.{◌≡◌, refl, ap, ◌∙◌, subst}
-use mathlib.Core.List.{List, [], ◌∷◌, ◌++◌, map}
-use Prim.Native.Nat.{ℕ, zero, suc, ◌+◌, ◌≤◌, ◌<◌}
-use native.Mathlib.Omega.{arith}
-use native.Mathlib.Decide.{ℕ_discrete}
-use lib.ListN.{length, take, drop, length-take}
-use lib.Seq.{take_at, drop_at}
-use borrow.Author.Tests.{ne_eqb, ltb-false}
+use Rattle.std.proofs.Common.{◌≡◌, refl, ap, ◌∙◌, subst, List, [], ◌∷◌, ◌++◌, map, ℕ, zero, suc, ◌+◌, ◌≤◌, ◌<◌, arith, length, take, drop, length-take, take_at, drop_at, ne_eqb}
+use Rattle.std.proofs.Math.Decide.{ℕ_discrete}
 use Rattle.rules.specs.Numbers.{last_tick}
 use Rattle.rules.specs.Table.{Table}
 use Rattle.rules.specs.Election.{number, elected}
 use Rattle.rules.specs.Sound.{Sound}
 use Rattle.rules.specs.Slot.{slot, slots, named}
-use Rattle.rules.specs.Call.{Call, Open, Close, Arrive, Depart, Elect, Slot, Advance, checks, refusal, effect, named_by, written, done, refused, called}
+use Rattle.rules.specs.Call.{Call, Open, Close, Arrive, Depart, Elect, Slot, Advance, refusal, effect, named_by, written, done, refused, called}
 use Rattle.rules.specs.History.{Deed, Opened, Closed, Arrived, Departed, Happening, Did, Gave, did, happened, history_from, table_from, ticks}
 use Rattle.rules.proofs.Answers.{called_done, called_refused, passed}
 use Rattle.rules.proofs.Stores.{slot_keeps}
@@ -66,12 +60,9 @@ pub after_sound : (hs : List Happening) (t : Table) → Sound t → AllAllowed t
 after_sound [] t s a = s
 after_sound (h ∷ hs) t s a = after_sound hs (next t h) (next_sound t h s a.0) a.1
 
-deed_keeps : (t : Table) (x : Deed) → ((effect t (call_of x)).policy ≡ t.policy) × ((effect t (call_of x)).now.0 ≡ t.now.0)
+pub deed_keeps : (t : Table) (x : Deed) → let u = effect t (call_of x) in (u.policy ≡ t.policy) × (u.now.0 ≡ t.now.0) × (u.idle.0 ≡ t.idle.0)
 unfolding effect call_of
-deed_keeps t (Opened p level cap gap) = (refl, refl)
-deed_keeps t (Closed p) = (refl, refl)
-deed_keeps t (Arrived p b d) = (refl, refl)
-deed_keeps t (Departed p) = (refl, refl)
+deed_keeps t x = grind arith
 
 pub next_policy : (t : Table) (h : Happening) → (next t h).policy ≡ t.policy
 next_policy t (Did x) = (deed_keeps t x).0
@@ -123,11 +114,10 @@ call_allowed t c s = elim (ℕ_discrete (refusal t c) 0) [
     is_done (Arrive p b d) e = unfold did call_of in ((e, tt), refl)
     is_done (Depart p) e = unfold did call_of in ((e, tt), refl)
     is_done Elect e = unfold did effect in (tt, refl)
-    is_done Slot e = unfold did effect named_by checks in let c = passed t Slot e in (((omega (arith, ltb-false last_tick (t.now.0 + 1) c.1.0), refl), tt), refl)
-    is_done (Advance n bytes start) e = unfold did effect written checks in
-        let c = passed t (Advance n bytes start) e in
-        rw (piece bytes (named n t) (drop n (drop start bytes)) start n (omega (arith, ltb-false (length bytes) (start + n) c.1.1.1.0)) (named_length n t))
-        (slots_allowed n t (ltb-false last_tick (t.now.0 + n) c.1.1.0))
+    is_done Slot e = unfold did effect named_by in ((((passed t Slot e).1, refl), tt), refl)
+    is_done (Advance n bytes start) e = unfold did effect written in
+        let c = (passed t (Advance n bytes start) e).1 in
+        rw (piece bytes (named n t) (drop n (drop start bytes)) start n (omega arith) (named_length n t)) (slots_allowed n t c.1)
 
 pub history_allowed : (cs : List Call) (t : Table) → Sound t → AllAllowed t (history_from t cs) × (after t (history_from t cs) ≡ table_from t cs)
 unfolding history_from table_from

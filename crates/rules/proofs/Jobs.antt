@@ -1,28 +1,18 @@
 -- The course of one job through a history: what each happening can do to it, and what that comes to until its deadline.
-use mathlib.Core.Path.{◌≡◌, refl, sym, ap, ◌∙◌, subst}
-use mathlib.Core.Logic.{◌≢◌}
-use mathlib.Core.Bool.{Bool, true, false, cond, ◌||◌, true≢false, false≢true}
-use mathlib.Core.List.{List, [], ◌∷◌, ◌++◌}
-use Prim.Native.Nat.{ℕ, zero, suc, ◌+◌, ◌≤◌, ◌<◌}
-use native.Mathlib.Omega.{arith}
-use native.Mathlib.Decide.{ℕ_discrete}
-use lib.Dec.{eqb}
-use borrow.Author.Tests.{eq-eqb, ne_eqb, eqb-true, eqb-false, not-false}
-use Rattle.rules.specs.declared.Place.{Place}
+use Rattle.std.proofs.Common.{get_or-set_same, get_or-set_other, length, ◌≡◌, refl, sym, ap, ◌∙◌, subst, Bool, true, false, cond, ◌||◌, true≢false, List, [], ◌∷◌, ◌++◌, ℕ, zero, suc, ◌+◌, ◌≤◌, ◌<◌, arith, eqb, eq-eqb, eqb-true}
+use Rattle.std.proofs.lemmas.Bool.{cond_both}
+use Rattle.std.proofs.lemmas.Bool.Decides.{nat_tests}
 use Rattle.rules.specs.Numbers.{place_count}
 use Rattle.rules.specs.Table.{Table, at}
 use Rattle.rules.specs.Election.{place, number, RanksBefore, goes_to, live_at, rank_at, elected}
 use Rattle.rules.specs.Sound.{Sound}
-use Rattle.rules.specs.Slot.{ended, given, unless_late, slot}
-use Rattle.rules.specs.Call.{checks, refusal, effect}
-use Rattle.rules.specs.History.{Deed, Opened, Closed, Arrived, Departed, Happening, Did, Gave, is_its, ticks, until, arrives_at, departs_from, closes, job_slots, withdrawn, undisturbed, place_of}
-use Rattle.rules.proofs.Tests.{or_left}
+use Rattle.rules.specs.Slot.{served, ended, unless_late, slot}
+use Rattle.rules.specs.Call.{judge, checks, refusal, effect}
+use Rattle.rules.specs.History.{Deed, Happening, Did, Gave, is_its, ticks, until, arrives_at, departs_from, closes, job_slots, withdrawn, undisturbed}
 use Rattle.rules.proofs.Elections.{elected_unique}
-use Rattle.rules.proofs.Answers.{passed}
-use Rattle.rules.proofs.Stores.{put_it, last, more, served_view, gone_late, in_time, late_view, gave, gave_it, gave_other, is_other, slot_at, slot_keeps, slot_leaves}
+use Rattle.rules.proofs.Stores.{gave, slot_at, slot_keeps}
 use Rattle.rules.proofs.Kept.{elected_ok, elected_live, live_bounds, slot_sound}
 use Rattle.rules.proofs.Histories.{call_of, next, AllAllowed, after, allowed_split, next_policy, deed_clock, deed_sound}
-use Rattle.rules.proofs.Ledgers.{names_it, names_other, deed_inside, deed_other}
 
 -- What a slot does to the live job of p. k is 1 where it is p's slot.
 pub data JobSlot (t : Table) (p k : ℕ) : Type 0 where
@@ -30,87 +20,38 @@ pub data JobSlot (t : Table) (p k : ℕ) : Type 0 where
   is_spent : (at (slot t) p).live ≡ 0 → (at (slot t) p).ending ≡ 2 → k ≡ 1 → (at t p).remaining.0 ≡ 1 → JobSlot t p k
   is_late : t.policy ≡ 2 → (at t p).deadline.0 ≤ t.now.0 + 1 → (at (slot t) p).live ≡ 0 → (at (slot t) p).ending ≡ 3 → k < (at t p).remaining.0 → JobSlot t p k
 
-module _ (t : Table) (p : ℕ) (s : Sound t) (l : p < place_count) (v : (at t p).live ≡ 1) where
-  some : 1 ≤ (at t p).remaining.0
-  some = (live_bounds t.now.0 (at t p) (s.places p l) v).1.some_left
-
-  after_slot : at (slot t) p ≡ unless_late t.policy (t.now.0 + 1) (gave (elected t) p (at t p))
-  after_slot = slot_at t p (omega (arith, s.size))
-
-  -- y is the place after steps 2 and 3
-  job_ends_late : (y : Place) (k : ℕ) → gave (elected t) p (at t p) ≡ y → y.live ≡ 1 → y.remaining.0 + k ≡ (at t p).remaining.0 → 1 ≤ y.remaining.0 → y.deadline.0 ≡ (at t p).deadline.0 → JobSlot t p k
-  job_ends_late y k g w r o d = elim (late_view t.policy (t.now.0 + 1) y) [
-    | gone_late e f h z ↦ let q = after_slot ∙ ap (unless_late t.policy (t.now.0 + 1)) g ∙ z in is_late e (omega arith) (rw q refl) (rw q refl) (omega arith)
-    | in_time f z ↦ let q = after_slot ∙ ap (unless_late t.policy (t.now.0 + 1)) g ∙ z in goes_on (rw q w) (rw q r) (rw q d)
-  ]
-
-  pub job_slot : JobSlot t p (is_its (number (elected t)) p)
-  job_slot = elim (is_other (elected t) p) [
-    | yes i ↦ rw (names_it (elected t) p i) (elim (served_view (at t p)) [
-      | last a e ↦ spends (ap (λ w. gave w p (at t p)) i ∙ gave_it p (at t p) ∙ e) a
-      | more a e ↦ job_ends_late (given (at t p)) 1 (ap (λ w. gave w p (at t p)) i ∙ gave_it p (at t p) ∙ e) v (omega arith) (omega arith) refl
-    ])
-    | no n ↦ rw (names_other (elected t) p l n) (job_ends_late (at t p) 0 (gave_other (elected t) p (at t p) n) v (omega arith) some refl)
-  ]
-    where
-      spends : gave (elected t) p (at t p) ≡ ended 2 (given (at t p)) → (at t p).remaining.0 ≤ 1 → JobSlot t p 1
-      spends g a = elim (late_view t.policy (t.now.0 + 1) (ended 2 (given (at t p)))) [
-        | gone_late e f h z ↦ absurd (omega arith)
-        | in_time f z ↦ let q = after_slot ∙ ap (unless_late t.policy (t.now.0 + 1)) g ∙ z in is_spent (rw q refl) (rw q refl) refl (omega (arith, some))
-      ]
+pub job_slot : (t : Table) (p : ℕ) → Sound t → p < place_count → (at t p).live ≡ 1 → JobSlot t p (is_its (number (elected t)) p)
+unfolding unless_late gave served number
+job_slot t p s l v = grind (arith, nat_tests, live_bounds (s.places p l) v, slot_at t p (omega (arith, s.size)), goes_on, is_spent, is_late)
 
 -- What an accepted call does to the live job of p.
 pub data JobDeed (t : Table) (p : ℕ) (x : Deed) : Type 0 where
   untouched : arrives_at p x ≡ false → departs_from p x ≡ false → at (effect t (call_of x)) p ≡ at t p → JobDeed t p x
   is_left : arrives_at p x ≡ false → departs_from p x ≡ true → at (effect t (call_of x)) p ≡ ended 1 (at t p) → JobDeed t p x
 
+deed_on_job : (t : Table) (p : ℕ) (x : Deed) → p < length t.places → (at t p).opened ≡ 1 → (at t p).live ≡ 1 → refusal t (call_of x) ≡ 0 → JobDeed t p x
+unfolding call_of refusal checks judge effect arrives_at departs_from
+deed_on_job t p x h o v a = grind (arith, nat_tests, get_or-set_same, get_or-set_other, untouched, is_left)
+
 pub job_deed : (t : Table) (p : ℕ) (x : Deed) → Sound t → p < place_count → (at t p).live ≡ 1 → refusal t (call_of x) ≡ 0 → JobDeed t p x
-job_deed t p x s l v a = elim (ℕ_discrete (place_of x) p) [ yes i ↦ here x a i | no n ↦ untouched (not_there x n).0 (not_there x n).1 (deed_other t x p n) ]
-  where
-    not_there : (x : Deed) → place_of x ≢ p → (arrives_at p x ≡ false) × (departs_from p x ≡ false)
-    not_there (Opened q level cap gap) n = unfold arrives_at departs_from in (refl, refl)
-    not_there (Closed q) n = unfold arrives_at departs_from in (refl, refl)
-    not_there (Arrived q b d) n = unfold arrives_at departs_from place_of in (ne_eqb q p n, refl)
-    not_there (Departed q) n = unfold arrives_at departs_from place_of in (refl, ne_eqb q p n)
-
-    is_open : (at t p).opened ≡ 1
-    is_open = (live_bounds t.now.0 (at t p) (s.places p l) v).0.opened
-
-    here : (x : Deed) → refusal t (call_of x) ≡ 0 → place_of x ≡ p → JobDeed t p x
-    here (Opened q level cap gap) a i = unfold call_of checks place_of in absurd (eqb-false (at t q).opened 1 (passed t _ a).1.1.0 (rw i is_open))
-    here (Closed q) a i = unfold call_of checks place_of in absurd (eqb-false (at t q).live 1 (passed t _ a).1.1.1.0 (rw i v))
-    here (Arrived q b d) a i = unfold call_of checks place_of in absurd (eqb-false (at t q).live 1 (passed t _ a).1.1.1.1.0 (rw i v))
-    here (Departed q) a i = unfold call_of effect arrives_at departs_from place_of in is_left refl (eq-eqb q p i) (rw i (put_it t p (ended 1 (at t p)) (omega (arith, s.size))))
+job_deed t p x s l v a = deed_on_job t p x (omega (arith, s.size)) (live_bounds (s.places p l) v).0.opened v a
 
 -- Where no job is live at p.
 off_slot : (t : Table) (p : ℕ) → Sound t → p < place_count → (at t p).live ≡ 0 → (eqb (number (elected t)) p ≡ false) × (at (slot t) p ≡ at t p)
-off_slot t p s l z =
-    let n : elected t ≢ place p = λ i. omega (arith, elected_live t p i) in (
-      names_other (elected t) p l n,
-      elim (late_view t.policy (t.now.0 + 1) (at t p)) [
-        | gone_late e f h q ↦ absurd (omega arith)
-        | in_time f q ↦ slot_at t p (omega (arith, s.size)) ∙ ap (unless_late t.policy (t.now.0 + 1)) (gave_other (elected t) p (at t p) n) ∙ q
-      ],
-    )
+unfolding unless_late gave served number
+off_slot t p s l z = grind (arith, nat_tests, slot_at t p (omega (arith, s.size)), elected_live t p)
 
-off_deed : (t : Table) (p : ℕ) (x : Deed) → Sound t → (at t p).live ≡ 0 → refusal t (call_of x) ≡ 0 → arrives_at p x ≡ false → (at (effect t (call_of x)) p).live ≡ 0
-off_deed t p x s z a n = elim (ℕ_discrete (place_of x) p) [ yes i ↦ here x a n i (deed_inside t x a) | no m ↦ rw (deed_other t x p m) z ]
-  where
-    here : (x : Deed) → refusal t (call_of x) ≡ 0 → arrives_at p x ≡ false → place_of x ≡ p → place_of x < place_count → (at (effect t (call_of x)) p).live ≡ 0
-    here (Opened q level cap gap) a n i l = unfold call_of effect place_of in rw (← i, put_it t q _ (omega (arith, s.size))) refl
-    here (Closed q) a n i l = unfold call_of effect place_of in rw (← i, put_it t q _ (omega (arith, s.size))) refl
-    here (Arrived q b d) a n i l = unfold arrives_at place_of in absurd (eqb-false q p n i)
-    here (Departed q) a n i l = unfold call_of effect place_of in rw (← i, put_it t q _ (omega (arith, s.size))) refl
+off_deed : (t : Table) (p : ℕ) (x : Deed) → p < length t.places → (at t p).live ≡ 0 → refusal t (call_of x) ≡ 0 → arrives_at p x ≡ false → (at (effect t (call_of x)) p).live ≡ 0
+unfolding call_of refusal checks judge effect arrives_at
+off_deed t p x h z a n = grind (arith, nat_tests, get_or-set_same, get_or-set_other)
 
 -- no slot names p before an arrival there
 pub off_row : (hs : List Happening) (t : Table) (p : ℕ) → Sound t → p < place_count → AllAllowed t hs → (at t p).live ≡ 0 → job_slots p hs ≡ 0
 unfolding job_slots
 off_row [] t p s l a z = refl
-off_row (Did x ∷ hs) t p s l a z = go (arrives_at p x) refl (λ n. off_row hs (effect t (call_of x)) p (deed_sound t x s a.0) l a.1 (off_deed t p x s z a.0 n))
-  where
-    go : (b : Bool) → arrives_at p x ≡ b → (arrives_at p x ≡ false → job_slots p hs ≡ 0) → cond b 0 (job_slots p hs) ≡ 0
-    go true e ih = refl
-    go false e ih = ih e
+off_row (Did x ∷ hs) t p s l a z =
+    cond_both (arrives_at p x) 0 (job_slots p hs) (λ k. k ≡ 0) (λ e. refl)
+    (λ e. off_row hs (effect t (call_of x)) p (deed_sound t x s a.0) l a.1 (off_deed t p x (omega (arith, s.size)) z a.0 e))
 off_row (Gave n ∷ hs) t p s l a z =
     let o = off_slot t p s l z in
     rw (ap (λ k. eqb k p) a.0.1 ∙ o.0) (omega (arith, off_row hs (slot t) p (slot_sound t a.0.0 s) l a.1 (rw o.1 z)))
@@ -145,11 +86,7 @@ pub until_fewer : (n p : ℕ) (hs : List Happening) → job_slots p (until n hs)
 unfolding until job_slots
 until_fewer zero p hs = omega arith
 until_fewer (suc n) p [] = omega arith
-until_fewer (suc n) p (Did x ∷ hs) = go (arrives_at p x) (until_fewer (suc n) p hs)
-  where
-    go : (b : Bool) → job_slots p (until (suc n) hs) ≤ job_slots p hs → cond b 0 (job_slots p (until (suc n) hs)) ≤ cond b 0 (job_slots p hs)
-    go true h = omega arith
-    go false h = h
+until_fewer (suc n) p (Did x ∷ hs) = let ih = until_fewer (suc n) p hs in grind arith
 until_fewer (suc n) p (Gave s ∷ hs) = omega (arith, until_fewer n p hs)
 
 pub until_allowed : (n : ℕ) (hs : List Happening) (t : Table) → AllAllowed t hs → AllAllowed t (until n hs)
@@ -177,7 +114,7 @@ had_now t p n m hs s l a k r z e = record {
 }
   where
     is : m ≡ p
-    is = elim (ℕ_discrete m p) [ yes i ↦ i | no i ↦ absurd (omega (arith, rw (ne_eqb m p i) at k)) ]
+    is = grind (arith, nat_tests)
 
 -- one happening more in front
 had_after : (t : Table) (p n : ℕ) (h : Happening) (hs : List Happening) (k m : ℕ) → until m (h ∷ hs) ≡ h ∷ until n hs → ((l : List Happening) → job_slots p (h ∷ l) ≡ k + job_slots p l) → (at (next t h) p).remaining.0 + k ≡ (at t p).remaining.0 → HadAll (next t h) p n hs → HadAll t p m (h ∷ hs)
@@ -193,7 +130,7 @@ had_after t p n h hs k m u j r d = record {
 -- Under policy 1 a live job that is not withdrawn has all its slots when the clock reaches its deadline: while it is live its deadline is ahead.
 pub job_served : (hs : List Happening) (t : Table) (p n : ℕ) → Sound t → t.policy ≡ 1 → p < place_count → AllAllowed t hs → (at t p).live ≡ 1 → (at t p).deadline.0 ≡ t.now.0 + n → n ≤ ticks hs → withdrawn p (until n hs) ≡ false → HadAll t p n hs
 unfolding ticks until withdrawn
-job_served hs t p zero s one l a v d h w = absurd (omega (arith, (live_bounds t.now.0 (at t p) (s.places p l) v).1.ahead))
+job_served hs t p zero s one l a v d h w = absurd (omega (arith, (live_bounds (s.places p l) v).1.ahead))
 job_served [] t p (suc n) s one l a v d h w = absurd (omega arith)
 job_served (Did x ∷ hs) t p (suc n) s one l a v d h w = elim (job_deed t p x s l v a.0) [
   | untouched e f g ↦ had_after t p (suc n) (Did x) hs 0 (suc n) refl (λ y. unfold job_slots in rw e (omega arith)) (rw g (omega arith))
@@ -216,24 +153,12 @@ pub data Fate (t : Table) (p n : ℕ) (hs : List Happening) : Type 0 where
 
 -- nothing hides how the job of p ended
 calm : (b y : Bool) → cond b false y ≡ true → (b ≡ false) × (y ≡ true)
-calm true y e = absurd (false≢true e)
-calm false y e = (refl, e)
+calm b y e = grind arith
 
 -- an accepted call where the job of p is over: it is for another place, or it hides how that job ended
 over_deed : (t : Table) (p : ℕ) (x : Deed) → (at t p).live ≡ 0 → (at t p).opened ≡ 1 → refusal t (call_of x) ≡ 0 → (arrives_at p x || closes p x) ≡ false → (arrives_at p x ≡ false) × (departs_from p x ≡ false) × (at (effect t (call_of x)) p ≡ at t p)
-over_deed t p x z o a u = elim (ℕ_discrete (place_of x) p) [ yes i ↦ absurd (here x a u i) | no n ↦ (or_left _ _ u, not_there x n, deed_other t x p n) ]
-  where
-    not_there : (x : Deed) → place_of x ≢ p → departs_from p x ≡ false
-    not_there (Opened q level cap gap) n = unfold departs_from in refl
-    not_there (Closed q) n = unfold departs_from in refl
-    not_there (Arrived q b d) n = unfold departs_from in refl
-    not_there (Departed q) n = unfold departs_from place_of in ne_eqb q p n
-
-    here : (x : Deed) → refusal t (call_of x) ≡ 0 → (arrives_at p x || closes p x) ≡ false → place_of x ≡ p → ⊥
-    here (Opened q level cap gap) a u i = unfold call_of checks place_of in eqb-false (at t q).opened 1 (passed t _ a).1.1.0 (rw i o)
-    here (Closed q) a u i = unfold arrives_at closes place_of in eqb-false q p u i
-    here (Arrived q b d) a u i = unfold arrives_at closes place_of in eqb-false q p (or_left _ _ u) i
-    here (Departed q) a u i = unfold call_of checks place_of in omega (arith, eqb-true (at t q).live 1 (not-false _ (passed t _ a).1.1.1.0), ap (λ k. (at t k).live) i)
+unfolding call_of refusal checks judge effect arrives_at departs_from closes
+over_deed t p x z o a u = grind (arith, nat_tests, get_or-set_same, get_or-set_other)
 
 -- once over, a job is over, and how it ended stays
 over_stays : (hs : List Happening) (t : Table) (p : ℕ) → Sound t → p < place_count → AllAllowed t hs → undisturbed p hs ≡ true → (at t p).live ≡ 0 → (at t p).opened ≡ 1 → ((at (after t hs) p).live ≡ 0) × ((at (after t hs) p).ending ≡ (at t p).ending) × (withdrawn p hs ≡ false)
@@ -251,15 +176,16 @@ over_stays (Gave m ∷ hs) t p s l a u z o =
 
 -- one happening more in front, which leaves the job as it is but for k slots
 fate_after : (t : Table) (p n : ℕ) (h : Happening) (hs : List Happening) (k c m : ℕ) → until m (h ∷ hs) ≡ h ∷ until n hs → ((l : List Happening) → job_slots p (h ∷ l) ≡ k + job_slots p l) → ((l : List Happening) → withdrawn p (h ∷ l) ≡ withdrawn p l) → ticks (h ∷ hs) ≡ c + ticks hs → m ≡ c + n → (at (next t h) p).remaining.0 + k ≡ (at t p).remaining.0 → Fate (next t h) p n hs → Fate t p m (h ∷ hs)
-fate_after t p n h hs k c m u j w e f r (still_live a b d g) = still_live a (w hs ∙ b) (omega arith) (rw (u, j) (omega arith))
-fate_after t p n h hs k c m u j w e f r (has_left z a b d g) = has_left z a (w hs ∙ b) (ap (withdrawn p) u ∙ w (until n hs) ∙ d) (rw (u, j) (omega arith))
-fate_after t p n h hs k c m u j w e f r (was_spent z a b d) = was_spent z a (w hs ∙ b) (rw (u, j) (omega arith))
-fate_after t p n h hs k c m u j w e f r (was_late z a b d g i) = was_late z a (w hs ∙ b) (ap (withdrawn p) u ∙ w (until n hs) ∙ d) (omega arith) (rw (u, j) (omega arith))
+fate_after t p n h hs k c m u j w e f r d = grind (arith, u, j (until n hs), w hs, w (until n hs), still_live, has_left, was_spent, was_late)
+
+slot_open : (t : Table) (p : ℕ) → p < length t.places → (at (slot t) p).opened ≡ (at t p).opened
+unfolding unless_late gave served
+slot_open t p h = grind (arith, nat_tests, slot_at t p h)
 
 pub job_fate : (hs : List Happening) (t : Table) (p n : ℕ) → Sound t → p < place_count → AllAllowed t hs → undisturbed p hs ≡ true → (at t p).live ≡ 1 → (at t p).deadline.0 ≡ t.now.0 + n → Fate t p n hs
 unfolding ticks until withdrawn job_slots undisturbed
-job_fate hs t p zero s l a u v d = absurd (omega (arith, (live_bounds t.now.0 (at t p) (s.places p l) v).1.ahead))
-job_fate [] t p (suc n) s l a u v d = still_live v refl (omega arith) (omega (arith, some t p s l v))
+job_fate hs t p zero s l a u v d = absurd (omega (arith, (live_bounds (s.places p l) v).1.ahead))
+job_fate [] t p (suc n) s l a u v d = still_live v refl (omega arith) (omega (arith, (live_bounds (s.places p l) v).1.some_left))
 job_fate (Did x ∷ hs) t p (suc n) s l a u v d =
     let c = calm (arrives_at p x || closes p x) (undisturbed p hs) u in
     let q = deed_sound t x s a.0 in
@@ -267,13 +193,13 @@ job_fate (Did x ∷ hs) t p (suc n) s l a u v d =
       | untouched e f g ↦ fate_after t p (suc n) (Did x) hs 0 0 (suc n) refl (λ y. rw e (omega arith)) (λ y. rw (e, f)) (omega arith) (omega arith) (rw g (omega arith))
           (job_fate hs (effect t (call_of x)) p (suc n) q l a.1 c.1 (rw g v) (rw g (omega (arith, deed_clock t x))))
       | is_left e f g ↦
-          let r = over_stays hs (effect t (call_of x)) p q l a.1 c.1 (rw g refl) (rw g (live_bounds t.now.0 (at t p) (s.places p l) v).0.opened) in
+          let r = over_stays hs (effect t (call_of x)) p q l a.1 c.1 (rw g refl) (rw g (live_bounds (s.places p l) v).0.opened) in
           has_left r.0 (r.1 ∙ ap (λ y. y.ending) g) (rw (e, f)) (rw (e, f))
-          (rw e (omega (arith, some t p s l v, off_row (until (suc n) hs) (effect t (call_of x)) p q l (until_allowed (suc n) hs _ a.1) (rw g refl))))
+          (rw e (omega (arith, (live_bounds (s.places p l) v).1.some_left, off_row (until (suc n) hs) (effect t (call_of x)) p q l (until_allowed (suc n) hs _ a.1) (rw g refl))))
     ]
 job_fate (Gave m ∷ hs) t p (suc n) s l a u v d =
     let q = slot_sound t a.0.0 s in
-    let o = slot_leaves (λ x. x.opened) (λ x. refl) (λ e x. refl) t p (omega (arith, s.size)) ∙ (live_bounds t.now.0 (at t p) (s.places p l) v).0.opened in
+    let o = slot_open t p (omega (arith, s.size)) ∙ (live_bounds (s.places p l) v).0.opened in
     elim (job_slot t p s l v) [
       | goes_on z r e ↦ fate_after t p n (Gave m) hs (is_its (number (elected t)) p) 1 (suc n) refl (λ y. rw a.0.1 refl) (λ y. refl) (omega arith) (omega arith) r
           (job_fate hs (slot t) p n q l a.1 u z (omega (arith, (slot_keeps t).clock)))
@@ -291,7 +217,7 @@ pub unoutranked_served : (hs : List Happening) (t : Table) (p n : ℕ) → Sound
     → ((since later : List Happening) (m : ℕ) → until n hs ≡ since ++ (Gave m ∷ later) → (q : ℕ) → q < place_count → (at (after t since) q).live ≡ 1 → ¬ RanksBefore (λ r. (at (after t since) r).level) q p)
     → HadAll t p n hs
 unfolding ticks until withdrawn
-unoutranked_served hs t p zero s two l a v d h r w none = absurd (omega (arith, (live_bounds t.now.0 (at t p) (s.places p l) v).1.ahead))
+unoutranked_served hs t p zero s two l a v d h r w none = absurd (omega (arith, (live_bounds (s.places p l) v).1.ahead))
 unoutranked_served [] t p (suc n) s two l a v d h r w none = absurd (omega arith)
 unoutranked_served (Did x ∷ hs) t p (suc n) s two l a v d h r w none = elim (job_deed t p x s l v a.0) [
   | untouched e f g ↦ had_after t p (suc n) (Did x) hs 0 (suc n) refl (λ y. unfold job_slots in rw e (omega arith)) (rw g (omega arith))
@@ -313,7 +239,7 @@ unoutranked_served (Gave m ∷ hs) t p (suc n) s two l a v d h r w none = elim (
         (goes_to l (eq-eqb (at t p).live 1 v) (λ q k y z. none [] (until n hs) m refl q k (eqb-true (at t q).live 1 y) (rw two at z)))
 
     its' : eqb (number (elected t)) p ≡ true
-    its' = names_it (elected t) p first
+    its' = rw first (unfold number in eq-eqb p p refl)
 
     its : eqb m p ≡ true
     its = ap (λ k. eqb k p) a.0.1 ∙ its'

@@ -1,21 +1,13 @@
 -- Every call hands back a sound table where it was given one: it stores a sound place with the same total, or it gives slots.
-use mathlib.Core.Path.{◌≡◌, refl, ap, ◌∙◌}
-use mathlib.Core.List.{[], ◌∷◌}
-use Prim.Native.Nat.{ℕ, ◌+◌, ◌≤◌, ◌<◌}
-use native.Mathlib.Omega.{arith}
-use native.Mathlib.Nat.{le_trans}
-use native.Mathlib.Decide.{ℕ_discrete}
-use lib.Dec.{ltb, eqb}
-use lib.ListN.{length-set}
-use borrow.Author.Tests.{leb-false, ltb-false, eqb-true, eq-eqb, ne_eqb, not-false}
+use Rattle.std.proofs.Common.{◌≡◌, refl, ap, ◌∙◌, ℕ, ◌+◌, ◌≤◌, ◌<◌, arith, le_trans, length-set, ne_eqb}
+use Rattle.std.proofs.Math.Decide.{ℕ_discrete}
 use Rattle.rules.specs.declared.Place.{Place}
-use Rattle.rules.specs.Numbers.{place_count, last_tick, longest_span, last_level}
+use Rattle.rules.specs.Numbers.{place_count, last_tick, longest_span}
 use Rattle.rules.specs.Table.{Table, closed_place, at, put}
 use Rattle.rules.specs.Fit.{demand, SumsFit, jobs_of, fits_by_sums}
 use Rattle.rules.specs.Sound.{SoundPlace, closed, resting, busy, Sound}
 use Rattle.rules.specs.Slot.{ended}
-use Rattle.rules.specs.Call.{Call, Open, Close, Arrive, Depart, Elect, Slot, Advance, with_job, arrived, opened, checks, refusal, effect, called}
-use Rattle.rules.proofs.Tests.{tests, some_fail, and_off}
+use Rattle.rules.specs.Call.{Call, Open, Close, Arrive, Depart, Elect, Slot, Advance, with_job, arrived, opened, refusal, effect, called}
 use Rattle.rules.proofs.Sums.{sum_mono, sum_ext}
 use Rattle.rules.proofs.Fits.{SumsAlways, due_gone}
 use Rattle.rules.proofs.Spending.{sums_always}
@@ -52,34 +44,25 @@ put_off : (t : Table) (p : ℕ) (x : Place) → p < place_count → x.live ≡ 0
 put_off t p x l off z e s = put_sound t p x l z e (off_fit t p x l off s) s
 
 job_sound : (now b d : ℕ) (x : Place) → x.opened ≡ 1 → 1 ≤ b → b ≤ x.cap.0 → 1 ≤ d → d ≤ longest_span → now + d ≤ last_tick → SoundPlace now x → SoundPlace now (with_job now x b d)
-job_sound now b d x o b1 bc d1 dm far (closed z) = absurd (omega (arith, z.opened))
-job_sound now b d x o b1 bc d1 dm far (resting k z) = busy (omega arith) (omega arith)
-job_sound now b d x o b1 bc d1 dm far (busy k j) = busy (omega arith) (omega arith)
+job_sound now b d x o b1 bc d1 dm far s = grind (arith, busy)
 
-effect_sound : (t : Table) (c : Call) → Sound t → Clear (checks t c) → Sound (effect t c)
-unfolding effect checks
-effect_sound t (Open p level cap gap) s ok =
-    let good = some_fail (ltb last_level level ∷ eqb cap 0 ∷ ltb gap cap ∷ ltb longest_span gap ∷ []) ok.1.1.1.0 in
-    put_off t p (opened level cap gap (at t p)) (leb-false place_count p ok.1.0) refl (resting (omega tests) (omega arith)) refl s
-effect_sound t (Close p) s ok = put_off t p (closed_place (at t p).total) (leb-false place_count p ok.1.0) refl (closed (omega arith)) refl s
+effect_sound : (t : Table) (c : Call) → Sound t → Clear t c → Sound (effect t c)
+unfolding effect
+effect_sound t (Open p level cap gap) s ok = put_off t p (opened level cap gap (at t p)) ok.0 refl (resting (omega arith) (omega arith)) refl s
+effect_sound t (Close p) s ok = put_off t p (closed_place (at t p).total) ok.0 refl (closed (omega arith)) refl s
 effect_sound t (Arrive p b d) s ok =
-    let inside = leb-false place_count p ok.1.0 in
-    let good = some_fail (eqb b 0 ∷ ltb (at t p).cap.0 b ∷ eqb d 0 ∷ ltb longest_span d ∷ []) ok.1.1.1.0 in
-    let far = ltb-false last_tick (t.now.0 + d) ok.1.1.1.1.1.1.0 in
-    put_sound t p (with_job t.now.0 (at t p) b d) inside
-    (job_sound t.now.0 b d (at t p) (eqb-true _ 1 (not-false _ ok.1.1.0)) (omega tests) (omega tests) (omega tests) (omega tests) far (s.places p inside))
-    refl (λ e. (sums_iff (jobs_of (arrived t p b d)) place_count t.now.0).0 (unfold fits_by_sums in not-false _ (and_off _ _ ok.1.1.1.1.1.1.1.0 (eq-eqb t.policy 1 e)))) s
+    put_sound t p (with_job t.now.0 (at t p) b d) ok.0
+    (job_sound t.now.0 b d (at t p) ok.1 ok.2.0 ok.2.1 ok.3.0 ok.3.1 ok.3.2 (s.places p ok.0))
+    refl (λ e. (sums_iff (jobs_of (arrived t p b d)) place_count t.now.0).0 (unfold fits_by_sums in ok.4 e)) s
 effect_sound t (Depart p) s ok =
-    let inside = leb-false place_count p ok.1.0 in
-    let v = eqb-true _ 1 (not-false _ ok.1.1.1.0) in
-    let o = live_bounds t.now.0 (at t p) (s.places p inside) v in
-    put_off t p (ended 1 (at t p)) inside refl (resting (omega arith) (omega arith)) refl s
+    let o = live_bounds (s.places p ok.0) ok.1 in
+    put_off t p (ended 1 (at t p)) ok.0 refl (resting (omega arith) (omega arith)) refl s
 effect_sound t Elect s ok = s
-effect_sound t Slot s ok = slot_sound t (omega (arith, ltb-false last_tick (t.now.0 + 1) ok.1.0)) s
-effect_sound t (Advance n bytes start) s ok = slots_sound n t (omega (arith, ltb-false last_tick (t.now.0 + n) ok.1.1.0)) s
+effect_sound t Slot s ok = slot_sound t ok s
+effect_sound t (Advance n bytes start) s ok = slots_sound n t ok.1 s
 
 pub call_sound : (t : Table) (c : Call) → Sound t → Sound (called t c).table
 call_sound t c s = elim (ℕ_discrete (refusal t c) 0) [
-  | yes e ↦ rw (called_done t c e) (effect_sound t c s (passed t c e))
+  | yes e ↦ rw (called_done t c e) (effect_sound t c s (passed t c e).1)
   | no n ↦ rw (called_refused t c (refusal t c) refl n) s
 ]

@@ -1,5 +1,4 @@
 pub mod Cases
-pub mod Tests
 pub mod Sums
 pub mod Elections
 pub mod Answers
@@ -21,3 +20,4 @@ pub mod Starts
 pub mod Demands
 pub mod Chronicles
 pub mod Source000
+pub mod Pinned

@@ -1,11 +1,5 @@
 -- n slots in a row: split in two, and as n slot calls.
-use mathlib.Core.Path.{◌≡◌, refl, ap}
-use mathlib.Core.List.{◌∷◌, ◌++◌}
-use Prim.Native.Nat.{ℕ, zero, suc, ◌+◌, ◌≤◌, ◌<◌}
-use native.Mathlib.Omega.{arith}
-use native.Mathlib.Nat.{zero-add, suc-add}
-use lib.ListN.{length, replicate}
-use borrow.Author.Tests.{le-ltb}
+use Rattle.std.proofs.Common.{◌≡◌, refl, ap, ◌∷◌, ◌++◌, ℕ, zero, suc, ◌+◌, ◌≤◌, ◌<◌, arith, zero-add, suc-add, length, replicate, le-ltb}
 use Rattle.rules.specs.Numbers.{last_tick}
 use Rattle.rules.specs.Table.{Table}
 use Rattle.rules.specs.Election.{number, elected}

@@ -1,10 +1,5 @@
 -- The claims of specs/Source000.antt, each under its name in small letters: the policy keeps the sums small, so a live deadline is ahead.
-use mathlib.Core.Path.{◌≡◌, sym, ap, ◌∙◌, subst}
-use mathlib.Core.Bool.{true}
-use mathlib.Core.List.{List, ◌++◌}
-use Prim.Native.Nat.{ℕ, zero, suc, ◌+◌, ◌-◌, ◌≤◌, ◌<◌}
-use native.Mathlib.Omega.{arith}
-use borrow.Author.Tests.{eqb-true}
+use Rattle.std.proofs.Common.{◌≡◌, sym, ap, ◌∙◌, subst, true, List, ◌++◌, ℕ, zero, suc, ◌+◌, ◌-◌, ◌≤◌, ◌<◌, arith, eqb-true}
 use Rattle.rules.specs.Numbers.{place_count}
 use Rattle.rules.specs.Table.{at}
 use Rattle.rules.specs.Fit.{Job, slots_for, Fits, jobs_of}
@@ -60,4 +55,4 @@ no_job_taken_is_ever_overdue calls before rest e p l o =
     let t = after (start 1) before in
     let s = sound_then calls before rest e in
     let j = job_then calls before rest e p l in
-    omega (arith, (live_bounds t.now.0 (at t p) (s.places p l) (eqb-true (at t p).live 1 (ap (λ k. k.live) j ∙ o.0))).1.ahead, ap (λ k. k.deadline) j, o.1, now_is 1 one_ok before)
+    omega (arith, (live_bounds (s.places p l) (eqb-true (at t p).live 1 (ap (λ k. k.live) j ∙ o.0))).1.ahead, ap (λ k. k.deadline) j, o.1, now_is 1 one_ok before)

@@ -1,17 +1,12 @@
 -- Where a history begins: an accepted set-up gives a fresh table, and from there on every row of the history is allowed.
-use mathlib.Core.Path.{◌≡◌, refl, sym, ap, ap₂, ◌∙◌, subst}
-use mathlib.Core.Bool.{Bool, true, false, cond, not}
-use mathlib.Core.List.{List, ◌++◌}
-use Prim.Native.Nat.{ℕ, ◌<◌}
-use native.Mathlib.Omega.{arith}
-use lib.ListN.{get_or-replicate}
+use Rattle.std.proofs.Common.{◌≡◌, refl, sym, ap, ap₂, ◌∙◌, subst, false, List, ◌++◌, ℕ, ◌<◌, arith}
 use Rattle.rules.specs.Numbers.{place_count}
-use Rattle.rules.specs.Table.{Table, zero_place, fresh_table, zero_table, at}
-use Rattle.rules.specs.Sound.{Sound, known_policy}
+use Rattle.rules.specs.Table.{Table, fresh_table}
+use Rattle.rules.specs.Sound.{Sound}
 use Rattle.rules.specs.Call.{Call, set_up}
 use Rattle.rules.specs.History.{Happening, history, table_after, ticks, reserve, ledger_from, ledger}
 use Rattle.rules.specs.Demands.{SetUp, figures_of}
-use Rattle.rules.proofs.Promises.{set_up_gives_sound}
+use Rattle.rules.proofs.Promises.{fresh_at, set_up_done, set_up_gives_sound}
 use Rattle.rules.proofs.Histories.{AllAllowed, after, allowed_split, after_sound, after_clock, history_allowed}
 use Rattle.rules.proofs.Ledgers.{shown, ledger_shown}
 
@@ -21,21 +16,13 @@ one_ok = unfold set_up in refl
 pub two_ok : SetUp 2
 two_ok = unfold set_up in refl
 
-pub fresh_at : (policy p : ℕ) → p < place_count → at (fresh_table policy) p ≡ zero_place
-fresh_at policy p l = get_or-replicate place_count p zero_place zero_place l
-
 -- A history from an accepted set-up on.
 abbrev pub start : ℕ → Table
 start policy = (set_up policy).table
 
 module _ (policy : ℕ) (ok : SetUp policy) where
   pub start_is : start policy ≡ fresh_table policy
-  unfolding set_up
-  start_is = go (known_policy policy) ok
-    where
-      go : (b : Bool) → ◌≡◌ {A = ℕ} (cond (not b) 12 0) 0 → cond (not b) zero_table (fresh_table policy) ≡ fresh_table policy
-      go true e = refl
-      go false e = absurd (omega arith)
+  start_is = (set_up_done policy ok).1
 
   pub start_sound : Sound (start policy)
   start_sound = set_up_gives_sound policy ok

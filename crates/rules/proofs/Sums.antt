@@ -1,12 +1,8 @@
 -- Laws of sums and tests over the places below a bound.
-use mathlib.Core.Path.{◌≡◌, refl, ap, ◌∙◌}
-use mathlib.Core.Logic.{◌⊎◌, inl, inr, ◌≢◌}
-use mathlib.Core.Bool.{Bool, true, false}
-use Prim.Native.Nat.{ℕ, zero, suc, ◌+◌, ◌≤◌, ◌<◌}
-use native.Mathlib.Omega.{arith}
-use native.Mathlib.Decide.{ℕ_discrete}
+use Rattle.std.proofs.Common.{◌≡◌, refl, ap, ◌∙◌, ◌⊎◌, inl, inr, ◌≢◌, Bool, true, false, ℕ, zero, suc, ◌+◌, ◌≤◌, ◌<◌, arith}
+use Rattle.std.proofs.lemmas.Bool.{and_parts, cases_Bool}
+use Rattle.std.proofs.Math.Decide.{ℕ_discrete}
 use Rattle.rules.specs.Tests.{sum, each}
-use Rattle.rules.proofs.Tests.{and_left, and_right}
 
 pub sum_mono : (f g : ℕ → ℕ) (m : ℕ) → ((p : ℕ) → p < m → f p ≤ g p) → sum f m ≤ sum g m
 unfolding sum
@@ -46,7 +42,9 @@ sum_fall f g (suc m) p h e o = elim (ℕ_discrete p m) [
 pub each_true : (b : ℕ → Bool) (m : ℕ) → each b m ≡ true → (p : ℕ) → p < m → b p ≡ true
 unfolding each
 each_true b zero e p l = absurd (omega arith)
-each_true b (suc m) e p l = elim (ℕ_discrete p m) [ yes i ↦ ap b i ∙ and_right (each b m) (b m) e | no n ↦ each_true b m (and_left (each b m) (b m) e) p (omega arith) ]
+each_true b (suc m) e p l =
+    let h = and_parts (each b m) (b m) e in
+    elim (ℕ_discrete p m) [ yes i ↦ ap b i ∙ h.1 | no n ↦ each_true b m h.0 p (omega arith) ]
 
 pub each_all : (b : ℕ → Bool) (m : ℕ) → ((p : ℕ) → p < m → b p ≡ true) → each b m ≡ true
 unfolding each
@@ -56,9 +54,7 @@ each_all b (suc m) h = rw (each_all b m (λ p l. h p (omega arith))) (h m (omega
 -- a place below m where the test holds, or none
 pub find : (b : ℕ → Bool) (m : ℕ) → ((p : ℕ) × (p < m) × (b p ≡ true)) ⊎ ((p : ℕ) → p < m → b p ≡ false)
 find b zero = inr (λ p h. absurd (omega arith))
-find b (suc m) = go (b m) refl (find b m)
-  where
-    go : (v : Bool) → b m ≡ v → ((p : ℕ) × (p < m) × (b p ≡ true)) ⊎ ((p : ℕ) → p < m → b p ≡ false) → ((p : ℕ) × (p < suc m) × (b p ≡ true)) ⊎ ((p : ℕ) → p < suc m → b p ≡ false)
-    go true e r = inl (m, omega arith, e)
-    go false e (inl r) = inl (r.0, omega arith, r.2)
-    go false e (inr r) = inr (λ p h. elim (ℕ_discrete p m) [ yes i ↦ ap b i ∙ e | no n ↦ r p (omega arith) ])
+find b (suc m) = elim (find b m) [
+  | inl r ↦ inl (r.0, omega arith, r.2)
+  | inr r ↦ elim (cases_Bool (b m)) [ inl e ↦ inl (m, omega arith, e) | inr e ↦ inr (λ p h. grind arith) ]
+]

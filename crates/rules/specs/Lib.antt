@@ -1,4 +1,5 @@
 pub mod Numbers
+pub mod Kinds
 pub mod Tests
 pub mod Table
 pub mod Election

@@ -1,4 +1,4 @@
--- The paper's numbers, each named once. The constants of src/lib.rt are the same.
+-- The paper's numbers, each named once. The constants of src/lib.rt, and the numbers of its kinds, are the same.
 use Rattle.std.specs.Prelude.{ℕ}
 
 -- how many places a table has

@@ -1,69 +1,80 @@
-// The rules of paper 01: a place, and, in specs/, what a table is, what each call does to it and answers, and what is promised.
+// The rules of the box: a place, and, in specs/, what a table is, what each call does to it and answers, and what is promised.
 //
-// What is here: the place, the paper's numbers, and no function. specs/ holds the meaning, a file for each part of the paper, and the
-// promises; a reader who trusts no proof reads specs/ alone.
+// What is here: the place, the kinds of policy, refusal and ending, and the limits. specs/ holds the meaning, a file for each part of
+// the rules, and the promises; a reader who trusts no proof reads specs/ alone.
 // What is proved: the promises of specs/Promises.antt, in proofs/, for every table and every call; the starred cases of the notebook.
 // What a caller should know: a crate that plays by these rules cites `called` in its contracts, and inherits every promise.
 
 #![tactic(auto)]
+
+ghost use Rattle.std.specs.Prelude.{◌≡◌};
+ghost use Rattle.rules.specs.Kinds.{Names};
 
 use time::{Instant, Span};
 
 // The number of places of a table.
 pub const PLACES: usize = 16;
 // The last tick of the clock.
-pub const LAST_TICK: u64 = 4_000_000_000;
+pub const LAST_TICK: Instant = Instant(4_000_000_000);
 // The longest gap, and the farthest that a deadline may lie ahead.
-pub const LONGEST_SPAN: u64 = 1_000_000;
+pub const LONGEST_SPAN: Span = Span(1_000_000);
 // The least urgent level; 0 is the most urgent.
 pub const LAST_LEVEL: u64 = 7;
 // The most slots of one advance.
-pub const MOST_SLOTS: u64 = 4_096;
-// What stands for nobody where a place is named: the slot is idle.
-pub const NOBODY: u64 = 255;
+pub const MOST_SLOTS: Span = Span(4_096);
+// What stands for nobody in the byte of a record, and where a program in C is named a place; neither has an `Option`.
+pub const NOBODY: u8 = 255;
 
-// The two policies.
-pub const EARLIEST_DEADLINE: u64 = 1;
+// How the slots are given. A table holds the number, since any number may stand there.
+#[derive(Clone, Copy, Debug, PartialEq, Eq)]
+pub enum Policy {
+    EarliestDeadline = 1,
+    FixedPriority = 2,
+}
 
-pub const FIXED_PRIORITY: u64 = 2;
+impl TryFrom<u64> for Policy {
+    type Error = Refusal;
 
-// What a call answers: done, or the paper's refusal.
-pub const DONE: u64 = 0;
+    ghost try_from_gives = { Names };
 
-pub const NOT_SOUND: u64 = 1;
+    fn try_from(number: u64) -> Result<Self, Refusal> {
+        match number {
+            1 => Ok(Policy::EarliestDeadline),
+            2 => Ok(Policy::FixedPriority),
+            _ => Err(Refusal::NoPolicy),
+        }
+    }
+}
 
-pub const NO_PLACE: u64 = 2;
+// Why a call is refused. A program in C is told the number, and 0 where the call is done.
+#[derive(Clone, Copy, Debug, PartialEq, Eq)]
+pub enum Refusal {
+    NotSound = 1,
+    NoPlace = 2,
+    AlreadyOpen = 3,
+    NotOpen = 4,
+    BadFigures = 5,
+    JobLive = 6,
+    TooEarly = 7,
+    BeyondClock = 8,
+    NoFit = 9,
+    NoJob = 10,
+    NoRoom = 11,
+    NoPolicy = 12,
+}
 
-pub const ALREADY_OPEN: u64 = 3;
+// How a job ended. A place holds the number, and 0 where none has.
+#[derive(Clone, Copy, Debug, PartialEq, Eq)]
+pub enum Ending {
+    Left = 1,
+    Spent = 2,
+    Late = 3,
+}
 
-pub const NOT_OPEN: u64 = 4;
-
-pub const BAD_FIGURES: u64 = 5;
-
-pub const JOB_LIVE: u64 = 6;
-
-pub const TOO_EARLY: u64 = 7;
-
-pub const BEYOND_CLOCK: u64 = 8;
-
-pub const NO_FIT: u64 = 9;
-
-pub const NO_JOB: u64 = 10;
-
-pub const NO_ROOM: u64 = 11;
-
-pub const NO_POLICY: u64 = 12;
-
-// How a job ended; 0 where none has.
-pub const LEFT: u64 = 1;
-
-pub const SPENT: u64 = 2;
-
-pub const LATE: u64 = 3;
-
-// A place: its reserve, its job, and what it was given. Every pattern of numbers is a place.
+// A place: its reserve, its job, and what it was given. Every pattern of numbers is a place: C writes the fields, and the soundness test
+// answers for any of them, so `opened`, `live` and `ending` are numbers, and a job is no `Option`.
 #[repr(C)]
-#[derive(Clone, Copy)]
+#[derive(Clone, Copy, Debug, Default, PartialEq, Eq)]
 pub struct Place {
     // 1 open, 0 closed
     pub opened: u64,
@@ -80,4 +91,22 @@ pub struct Place {
     pub ending: u64,
     // the slots ever given to this place since set-up
     pub total: Span,
+}
+
+impl Place {
+    ghost use Rattle.rules.specs.Table.{is_open, is_live};
+
+    // Whether a reserve is open here.
+    pub fn is_open(&self) -> bool
+        ensures { result ≡ is_open self.now }
+    {
+        self.opened == 1
+    }
+
+    // Whether a job is live here.
+    pub fn is_live(&self) -> bool
+        ensures { result ≡ is_live self.now }
+    {
+        self.live == 1
+    }
 }

@@ -1,29 +1,32 @@
--- Laws of tests, and of sums that a word may cut off.
-use mathlib.Core.Path.{◌≡◌, sym, ◌∙◌}
-use mathlib.Core.Bool.{Bool, true, false, cond}
-use Prim.Native.Nat.{ℕ, ◌≤◌, min}
-use native.Mathlib.Omega.{arith}
-use native.Mathlib.Decide.{ℕ_discrete, dec_le}
-use lib.Dec.{leb, eqb}
-use borrow.Author.Tests.{le-leb, lt-leb, eq-eqb, ne_eqb}
+-- Laws of comparisons, and of numbers that a word may cut off.
+use Rattle.std.proofs.Common.{◌≡◌, refl, sym, ap, ◌∙◌, List, [], ◌∷◌, map, false, ℕ, ◌+◌, ◌-◌, ◌≤◌, min, eqb, leb, ltb, is_lt, is_le, nat_cmp, arith, rules}
 use Rattle.time.specs.Kinds.{largest}
-use Rattle.rules.proofs.Tests.{pick_yes, pick_no}
+use native.Mathlib.Decide.{dec_le}
+use borrow.Author.Tests.{le-leb, lt-leb, ltb-false}
+use Rattle.rules.specs.declared.Place.{Place}
+use Rattle.rules.specs.Numbers.{fixed_priority}
+use Rattle.rules.specs.Slot.{unless_late}
 
--- a test that holds picks the first, a test that fails the second
-pub at_yes : {A : Type 0} {b : Bool} {x z : A} (y : A) → b ≡ true → z ≡ x → z ≡ cond b x y
-at_yes {b = b} {x = x} y e q = q ∙ sym (pick_yes b x y e)
+pub is_lt_ltb : (a b : ℕ) → is_lt (nat_cmp a b) ≡ ltb a b
+is_lt_ltb a b = search rules
 
-pub at_no : {A : Type 0} {b : Bool} {y z : A} (x : A) → b ≡ false → z ≡ y → z ≡ cond b x y
-at_no {b = b} {y = y} x e q = q ∙ sym (pick_no b x y e)
+pub is_le_leb : (a b : ℕ) → is_le (nat_cmp a b) ≡ leb a b
+is_le_leb a b = search rules
 
--- two tests are equal where each holds if the other does
-pub eqb_same : (a b c d : ℕ) → (a ≡ b → c ≡ d) → (c ≡ d → a ≡ b) → eqb a b ≡ eqb c d
-eqb_same a b c d f g = elim (ℕ_discrete a b) [ yes e ↦ eq-eqb a b e ∙ sym (eq-eqb c d (f e)) | no n ↦ ne_eqb a b n ∙ sym (ne_eqb c d (λ e. n (g e))) ]
+-- what a failed comparison of two instants or spans says of their numbers
+pub not_less : {a b : ℕ} {r : _} → r ≡ is_lt (nat_cmp a b) → r ≡ false → b ≤ a
+not_less {a} {b} e h = ltb-false a b (sym (is_lt_ltb a b) ∙ sym e ∙ h)
 
--- a word is at most a sum if it is at most the sum as a word holds it
-pub leb_capped : (x y z : ℕ) → x ≤ largest → z ≡ min y largest → leb x z ≡ leb x y
-leb_capped x y z h e = elim (dec_le x y) [ yes l ↦ le-leb x z (omega arith) ∙ sym (le-leb x y l) | no n ↦ lt-leb x z (omega arith) ∙ sym (lt-leb x y (omega arith)) ]
+-- at most a span ahead, as a difference and as a sum
+pub leb_ahead : (x n g : ℕ) → leb (x - n) g ≡ leb x (n + g)
+leb_ahead x n g = elim (dec_le x (n + g)) [ yes l ↦ le-leb (x - n) g (omega arith) ∙ sym (le-leb x (n + g) l) | no k ↦ lt-leb (x - n) g (omega arith) ∙ sym (lt-leb x (n + g) (omega arith)) ]
 
 -- a sum that a word holds is not cut off
 pub uncapped : {y z : ℕ} → y ≤ largest → z ≡ min y largest → z ≡ y
 uncapped h e = omega arith
+
+-- under another policy than the second step 4 leaves each place as it was
+pub late_never : (policy now : ℕ) (l : List Place) → eqb policy fixed_priority ≡ false → l ≡ map (unless_late policy now) l
+unfolding unless_late
+late_never policy now [] e = refl
+late_never policy now (x ∷ l) e = rw e (ap (λ m. x ∷ m) (late_never policy now l e))

@@ -1,6 +1,6 @@
 pub mod Laws
 pub mod Loops
-pub mod Refusals
 pub mod Leads
+pub mod Clauses
 pub mod Turns
 pub mod Pinned

@@ -1,52 +1,29 @@
--- Laws of the loops over the places: a test of each, a sum, and a store into each.
-use mathlib.Core.Path.{◌≡◌, refl, sym, ap}
-use mathlib.Core.Bool.{Bool, true, false}
-use mathlib.Core.List.{List, [], ◌∷◌, map}
-use Prim.Native.Nat.{ℕ, zero, suc, ◌+◌, ◌-◌, ◌≤◌, ◌<◌}
-use native.Mathlib.Omega.{arith}
-use native.Mathlib.Numerals.{add-one}
-use native.Mathlib.Decide.{ℕ_discrete}
-use lib.ListN.{length, get_or, set}
+-- Laws of what is done to each place of a table: a test of each, a sum, and a store into each.
+use Rattle.std.proofs.Common.{◌≡◌, refl, sym, ap, ◌∙◌, Bool, List, [], ◌∷◌, map, ℕ, zero, suc, ◌+◌, ◌≤◌, ◌<◌, length, get_or, set, take, take_all, arith, add-one}
+use Rattle.std.specs.List.{list_all, sum_by}
+use Rattle.std.proofs.lemmas.List.Sums.{sum_by_more}
+use Rattle.std.proofs.lemmas.List.Folds.{list_all_more}
 use Rattle.rules.specs.Tests.{sum, each}
-use Rattle.rules.proofs.Tests.{clash}
-use Rattle.rules.proofs.Sums.{each_true}
 
--- going up through a test of each place
-pub each_none : (b : ℕ → Bool) → each b 0 ≡ true
-unfolding each
-each_none b = refl
+-- a test of each item is one of each index
+module _ {A : Type 0} (b : A → Bool) (d : A) where
+  all_below : (l : List A) (i : ℕ) → i ≤ length l → list_all b (take i l) ≡ each (λ k. b (get_or l k d)) i
+  unfolding each
+  all_below l zero h = refl
+  all_below l (suc i) h = rw (← add-one, list_all_more b l i d (omega arith), all_below l i (omega arith))
 
-pub each_next : (b : ℕ → Bool) (i : ℕ) → each b i ≡ true → b i ≡ true → each b (i + 1) ≡ true
-unfolding each
-each_next b i e f = rw (add-one, e, f)
+  pub all_each : (l : List A) (m : ℕ) → length l ≡ m → list_all b l ≡ each (λ k. b (get_or l k d)) m
+  all_each l m e = ap (list_all b) (sym (take_all m l (omega arith))) ∙ all_below l m (omega arith)
 
-pub each_stop : (b : ℕ → Bool) (m i : ℕ) → i < m → b i ≡ false → false ≡ each b m
-each_stop b m i h f = go (each b m) refl
-  where
-    go : (v : Bool) → each b m ≡ v → false ≡ each b m
-    go true e = clash (each_true b m e i h) f
-    go false e = sym e
-
--- going up through a sum with what is left of a limit
-module _ (f : ℕ → ℕ) where
-  part_le : (m i : ℕ) → i < m → f i + sum f i ≤ sum f m
+-- and so is a sum
+module _ {A : Type 0} (f : A → ℕ) (d : A) where
+  sum_below : (l : List A) (i : ℕ) → i ≤ length l → sum_by f (take i l) ≡ sum (λ k. f (get_or l k d)) i
   unfolding sum
-  part_le zero i h = absurd (omega arith)
-  part_le (suc m) i h = elim (ℕ_discrete i m) [ yes e ↦ omega (arith, ap f e, ap (sum f) e) | no n ↦ omega (arith, part_le m i (omega arith)) ]
+  sum_below l zero h = refl
+  sum_below l (suc i) h = rw (← add-one, sum_by_more f l i d (omega arith), sum_below l i (omega arith)) (omega arith)
 
-  pub left_all : (l : ℕ) → l + sum f 0 ≡ l
-  unfolding sum
-  left_all l = omega arith
-
-  pub left_next : (i : ℕ) {l r x limit : ℕ} → l + sum f i ≡ limit → x ≡ f i → x ≤ l → r ≡ l - x → r + sum f (i + 1) ≡ limit
-  unfolding sum
-  left_next i e g h k = rw add-one (omega arith)
-
-  pub left_stop : (m i : ℕ) {l x limit : ℕ} → i < m → l + sum f i ≡ limit → x ≡ f i → l < x → limit < sum f m
-  left_stop m i h e g k = omega (arith, part_le m i h)
-
-  pub left_end : (m i l : ℕ) {limit : ℕ} → l + sum f i ≡ limit → i ≡ m → (l + sum f m ≡ limit) × (sum f m ≤ limit)
-  left_end m i l e g = let h = ap (sum f) g in (omega arith, omega arith)
+  pub sum_each : (l : List A) (m : ℕ) → length l ≡ m → sum_by f l ≡ sum (λ k. f (get_or l k d)) m
+  sum_each l m e = ap (sum_by f) (sym (take_all m l (omega arith))) ∙ sum_below l m (omega arith)
 
 -- the first i elements mapped, the others as they are
 abbrev pub map_to : {A : Type 0} → (A → A) → ℕ → List A → List A
@@ -59,8 +36,8 @@ map_to_suc f d i [] h = absurd (omega arith)
 map_to_suc f d zero (x ∷ l) h = refl
 map_to_suc f d (suc i) (x ∷ l) h = ap (λ m. f x ∷ m) (map_to_suc f d i l (omega arith))
 
-pub map_to_next : {A : Type 0} (f : A → A) (d : A) (i : ℕ) (l : List A) → i < length l → set (map_to f i l) i (f (get_or (map_to f i l) i d)) ≡ map_to f (i + 1) l
-map_to_next f d i l h = rw add-one (map_to_suc f d i l h)
+pub map_to_next : {A : Type 0} (f : A → A) (d : A) (i : ℕ) (l : List A) {m : List A} {x : A} → i < length l → m ≡ map_to f i l → x ≡ f (get_or m i d) → set m i x ≡ map_to f (i + 1) l
+map_to_next f d i l h e g = rw (g, e, add-one) (map_to_suc f d i l h)
 
 pub map_to_all : {A : Type 0} (f : A → A) (i : ℕ) (l : List A) → length l ≤ i → map_to f i l ≡ map f l
 map_to_all f zero [] h = refl

@@ -1,20 +1,19 @@
-// Set up, open and close a reserve, a job's arrival and departure.
+// Set up, open and close a reserve, a job's arrival and departure. The check opens the definitions that the next line names at each goal.
 
-ghost use Rattle.std.specs.Prelude.{◌≡◌, ◌+◌, ◌<◌, ◌≤◌};
+#![tactic(auto, unfolding(rules::specs::Call::called, rules::specs::Call::refusal, rules::specs::Call::checks, rules::specs::Call::judge, rules::specs::Call::effect))]
+
+ghost use Rattle.std.specs.Prelude.{◌≡◌, ◌+◌, ◌<◌, ◌≤◌, MatchResult};
+ghost use Rattle.time.specs.Kinds.{largest};
+ghost use Rattle.rules.specs.declared.Refusal.TheVariants.{NoPlace, BeyondClock};
 ghost use Rattle.rules.specs.Numbers.{place_count, last_tick};
-ghost use Rattle.rules.specs.Table.{fresh_table, closed_place, at, put};
-ghost use Rattle.rules.specs.Call.{Open, Close, Arrive, Depart, refusal, bad_reserve, bad_job, arrived, opened as opened_with};
-ghost use Rattle.table.specs.Dress.{ruled, dressed, SetUpGives, OpenGives, CloseGives, ArriveGives, DepartGives};
-ghost use Rattle.table.specs.Leaves.{RoomForJob};
+ghost use Rattle.rules.specs.Table.{fresh_table, closed_place};
+ghost use Rattle.rules.specs.Call.{Open, Close, Arrive, Depart, called, set_up, bad_reserve, bad_job, with_job, opened as opened_with};
+ghost use Rattle.table.specs.Leaves.{policy_or_none};
+ghost use Rattle.table.specs.Dress.{ruled, dressed, Answers};
 
-use crate::fit::fits;
 use crate::slot::ended;
-use crate::{Answer, Table};
-use rules::{
-    ALREADY_OPEN, BAD_FIGURES, BEYOND_CLOCK, DONE, EARLIEST_DEADLINE, FIXED_PRIORITY, JOB_LIVE,
-    LAST_LEVEL, LAST_TICK, LEFT, LONGEST_SPAN, NO_FIT, NO_JOB, NO_PLACE, NO_POLICY, NOT_OPEN,
-    NOT_SOUND, PLACES, Place, TOO_EARLY,
-};
+use crate::{Answer, Request, Reserve, Table};
+use rules::{Ending, LAST_LEVEL, LAST_TICK, LONGEST_SPAN, PLACES, Place, Policy, Refusal};
 use time::{Instant, Span};
 
 // A closed place: zero in everything but its total.
@@ -22,278 +21,218 @@ fn closed_place(total: Span) -> Place
     ensures { result ≡ closed_place total }
 {
     Place {
-        opened: 0,
-        level: 0,
-        cap: Span(0),
-        gap: Span(0),
-        next: Instant(0),
-        live: 0,
-        budget: Span(0),
-        remaining: Span(0),
-        deadline: Instant(0),
-        ending: 0,
         total,
+        ..Place::default()
     }
 }
 
 // A place open with these figures; next 0, no job, ending 0.
-fn open_place(level: u64, cap: Span, gap: Span, p: Place) -> Place
-    ensures { result ≡ opened_with level cap.0 gap.0 p }
+fn open_place(reserve: Reserve, total: Span) -> Place
+    ensures { result ≡ opened_with reserve.level reserve.cap.0 reserve.gap.0 (closed_place total) }
 {
-    let mut q = closed_place(p.total);
-    q.opened = 1;
-    q.level = level;
-    q.cap = cap;
-    q.gap = gap;
-    q
+    Place {
+        opened: 1,
+        level: reserve.level,
+        cap: reserve.cap,
+        gap: reserve.gap,
+        ..closed_place(total)
+    }
 }
 
-// Clock 0, idle 0, all places closed, all totals 0.
-fn fresh_table(policy: u64) -> Table
-    ensures { result ≡ dressed (fresh_table policy) }
+// The place with a live job: remaining is the budget, deadline now + away, ending 0; next becomes now + gap.
+fn with_job(now: Instant, p: Place, request: Request) -> Place
+    requires { (now.0 + p.gap.0 ≤ largest) × (now.0 + request.away.0 ≤ largest) }
+    ensures { result ≡ with_job now.0 p request.budget.0 request.away.0 }
 {
-    let p = closed_place(Span(0));
+    Place {
+        next: now.plus(p.gap),
+        live: 1,
+        budget: request.budget,
+        remaining: request.budget,
+        deadline: now.plus(request.away),
+        ending: 0,
+        ..p
+    }
+}
+
+// Clock 0, idle 0, all places closed, all totals 0; with no policy, the table of zeros.
+fn fresh_table(policy: Option<Policy>) -> Table
+    ensures { result ≡ dressed (fresh_table (policy_or_none policy)) }
+{
     Table {
-        policy,
+        policy: policy.map_or(0, |policy| policy as u64),
         now: Instant(0),
         idle: Span(0),
-        places: [p; PLACES],
+        places: [Place::default(); PLACES],
     }
 }
 
-fn place_at(t: Table, place: u64) -> Place
-    requires { place < place_count }
-    ensures { result ≡ at (ruled t) place }
+// The index of the place of this number; a number that names none is refused. The calls take any number, as C does.
+fn index_of(place: u64) -> Result<usize, Refusal>
+    ensures { MatchResult result (λ i. (i ≡ place) × (place < place_count)) (λ e. (e ≡ NoPlace) × (place_count ≤ place)) }
 {
-    let i = place as usize;
-    t.places[i]
+    if place < PLACES as u64 {
+        Ok(place as usize)
+    } else {
+        Err(Refusal::NoPlace)
+    }
 }
 
-// The table with another place at this number.
-fn with_place(t: Table, place: u64, p: Place) -> Table
-    requires { place < place_count }
-    ensures { result ≡ dressed (put (ruled t) place p) }
-{
-    let i = place as usize;
-    let mut after = t;
-    after.places[i] = p;
-    after
+impl Reserve {
+    // Bad figures: level > 7, cap = 0, cap > gap, gap > 1,000,000.
+    fn is_bad(self) -> bool
+        ensures { result ≡ bad_reserve self.level self.cap.0 self.gap.0 }
+    {
+        let Reserve { level, cap, gap } = self;
+        LAST_LEVEL < level || cap == Span(0) || gap < cap || LONGEST_SPAN < gap
+    }
 }
 
-// The table with a live job at this place: remaining b, deadline now + D, ending 0; next becomes now + T.
-fn with_job(t: Table, place: u64, budget: Span, away: Span) -> Table
-    requires { RoomForJob (ruled t) place away.0 }
-    ensures { result ≡ dressed (arrived (ruled t) place budget.0 away.0) }
-{
-    let mut p = place_at(t, place);
-    let next = t.now.plus(p.gap);
-    let deadline = t.now.plus(away);
-    p.next = next;
-    p.live = 1;
-    p.budget = budget;
-    p.remaining = budget;
-    p.deadline = deadline;
-    p.ending = 0;
-    with_place(t, place, p)
-}
-
-// Bad figures of a reserve: level > 7, C = 0, C > T, T > 1,000,000.
-fn bad_reserve(level: u64, cap: Span, gap: Span) -> bool
-    ensures { result ≡ bad_reserve level cap.0 gap.0 }
-{
-    (LAST_LEVEL < level) | (cap.0 == 0) | (gap.0 < cap.0) | (LONGEST_SPAN < gap.0)
-}
-
-// Bad figures of a job: b = 0, b > C, D = 0, D > 1,000,000.
-fn bad_job(p: Place, budget: Span, away: Span) -> bool
-    ensures { result ≡ bad_job p budget.0 away.0 }
-{
-    (budget.0 == 0) | (p.cap.0 < budget.0) | (away.0 == 0) | (LONGEST_SPAN < away.0)
-}
-
-// The refusals of each call, in the order of the paper; 0 where none applies.
-#[tactic(auto, unfolding(rules::specs::Call::refusal, rules::specs::Call::checks, rules::specs::Call::judge))]
-fn open_refusal(t: Table, place: u64, level: u64, cap: Span, gap: Span) -> u64
-    ensures { result ≡ refusal (ruled t) (Open place level cap.0 gap.0) }
-{
-    if !t.is_sound() {
-        return NOT_SOUND;
+impl Request {
+    // Bad figures at this place: budget = 0, budget > cap, away = 0, away > 1,000,000.
+    fn is_bad_at(self, p: &Place) -> bool
+        ensures { result ≡ bad_job p.now self.budget.0 self.away.0 }
+    {
+        let Request { budget, away } = self;
+        budget == Span(0) || p.cap < budget || away == Span(0) || LONGEST_SPAN < away
     }
-    if PLACES as u64 <= place {
-        return NO_PLACE;
-    }
-    if place_at(t, place).opened == 1 {
-        return ALREADY_OPEN;
-    }
-    if bad_reserve(level, cap, gap) {
-        return BAD_FIGURES;
-    }
-    DONE
-}
-
-#[tactic(auto, unfolding(rules::specs::Call::refusal, rules::specs::Call::checks, rules::specs::Call::judge))]
-fn close_refusal(t: Table, place: u64) -> u64
-    ensures { result ≡ refusal (ruled t) (Close place) }
-{
-    if !t.is_sound() {
-        return NOT_SOUND;
-    }
-    if PLACES as u64 <= place {
-        return NO_PLACE;
-    }
-    let p = place_at(t, place);
-    if p.opened != 1 {
-        return NOT_OPEN;
-    }
-    if p.live == 1 {
-        return JOB_LIVE;
-    }
-    if t.now.0 < p.next.0 {
-        return TOO_EARLY;
-    }
-    DONE
-}
-
-#[tactic(auto, unfolding(rules::specs::Call::refusal, rules::specs::Call::checks, rules::specs::Call::judge))]
-fn arrive_refusal(t: Table, place: u64, budget: Span, away: Span) -> u64
-    ensures { result ≡ refusal (ruled t) (Arrive place budget.0 away.0) }
-{
-    if !t.is_sound() {
-        return NOT_SOUND;
-    }
-    if PLACES as u64 <= place {
-        return NO_PLACE;
-    }
-    let p = place_at(t, place);
-    if p.opened != 1 {
-        return NOT_OPEN;
-    }
-    if bad_job(p, budget, away) {
-        return BAD_FIGURES;
-    }
-    if p.live == 1 {
-        return JOB_LIVE;
-    }
-    if t.now.0 < p.next.0 {
-        return TOO_EARLY;
-    }
-    if LAST_TICK < t.now.plus(away).0 {
-        return BEYOND_CLOCK;
-    }
-    if t.policy != EARLIEST_DEADLINE {
-        return DONE;
-    }
-    if !fits(with_job(t, place, budget, away)) {
-        return NO_FIT;
-    }
-    DONE
-}
-
-#[tactic(auto, unfolding(rules::specs::Call::refusal, rules::specs::Call::checks, rules::specs::Call::judge))]
-fn depart_refusal(t: Table, place: u64) -> u64
-    ensures { result ≡ refusal (ruled t) (Depart place) }
-{
-    if !t.is_sound() {
-        return NOT_SOUND;
-    }
-    if PLACES as u64 <= place {
-        return NO_PLACE;
-    }
-    let p = place_at(t, place);
-    if p.opened != 1 {
-        return NOT_OPEN;
-    }
-    if p.live != 1 {
-        return NO_JOB;
-    }
-    DONE
 }
 
 impl Table {
-    // A fresh table under this policy: 1 earliest deadline, 2 fixed priority.
-    pub fn set_up(policy: u64) -> Answer
-        ensures { SetUpGives policy result }
+    // An instant this far ahead is still on the clock; one beyond it is refused.
+    pub(crate) fn reaches(&self, span: Span) -> Result<(), Refusal>
+        ensures { MatchResult result (λ _. self.entry.now.now.0 + span.0 ≤ last_tick) (λ e. (e ≡ BeyondClock) × (last_tick < self.entry.now.now.0 + span.0)) }
     {
-        if (policy == EARLIEST_DEADLINE) | (policy == FIXED_PRIORITY) {
-            return Answer {
-                number: DONE,
-                table: fresh_table(policy),
-            };
-        }
-        Answer {
-            number: NO_POLICY,
-            table: fresh_table(0),
+        if self.now.plus(span) <= LAST_TICK {
+            Ok(())
+        } else {
+            Err(Refusal::BeyondClock)
         }
     }
 
-    // Opens the place as a reserve of this level, cap and gap.
-    pub fn open(self, place: u64, level: u64, cap: Span, gap: Span) -> Answer
-        ensures { OpenGives self place level cap gap result }
+    // Opens the place as this reserve.
+    fn try_open(&mut self, place: u64, reserve: Reserve) -> Result<(), Refusal>
+        ensures { Answers (called (ruled self.old) (Open place reserve.level reserve.cap.0 reserve.gap.0)) result self.new }
     {
-        let number = open_refusal(self, place, level, cap, gap);
-        if number != DONE {
-            return Answer {
-                number,
-                table: self,
-            };
+        self.checked()?;
+        let p = &mut self.places[index_of(place)?];
+        if p.is_open() {
+            return Err(Refusal::AlreadyOpen);
         }
-        let p = open_place(level, cap, gap, place_at(self, place));
-        Answer {
-            number: DONE,
-            table: with_place(self, place, p),
+        if reserve.is_bad() {
+            return Err(Refusal::BadFigures);
         }
+        *p = open_place(reserve, p.total);
+        Ok(())
     }
 
     // Closes the place: it returns to zeros, its total kept.
-    pub fn close(self, place: u64) -> Answer
-        ensures { CloseGives self place result }
+    fn try_close(&mut self, place: u64) -> Result<(), Refusal>
+        ensures { Answers (called (ruled self.old) (Close place)) result self.new }
     {
-        let number = close_refusal(self, place);
-        if number != DONE {
-            return Answer {
-                number,
-                table: self,
-            };
+        self.checked()?;
+        let p = &mut self.places[index_of(place)?];
+        if !p.is_open() {
+            return Err(Refusal::NotOpen);
         }
-        let p = closed_place(place_at(self, place).total);
-        Answer {
-            number: DONE,
-            table: with_place(self, place, p),
+        if p.is_live() {
+            return Err(Refusal::JobLive);
         }
+        if self.now < p.next {
+            return Err(Refusal::TooEarly);
+        }
+        *p = closed_place(p.total);
+        Ok(())
+    }
+
+    // A job arrives at the place.
+    fn try_arrive(&mut self, place: u64, request: Request) -> Result<(), Refusal>
+        ensures { Answers (called (ruled self.old) (Arrive place request.budget.0 request.away.0)) result self.new }
+    {
+        self.checked()?;
+        let at = index_of(place)?;
+        let p = self.places[at];
+        if !p.is_open() {
+            return Err(Refusal::NotOpen);
+        }
+        if request.is_bad_at(&p) {
+            return Err(Refusal::BadFigures);
+        }
+        if p.is_live() {
+            return Err(Refusal::JobLive);
+        }
+        if self.now < p.next {
+            return Err(Refusal::TooEarly);
+        }
+        self.reaches(request.away)?;
+        let mut after = *self;
+        after.places[at] = with_job(self.now, p, request);
+        if after.is_overfull() {
+            return Err(Refusal::NoFit);
+        }
+        *self = after;
+        Ok(())
+    }
+
+    // The job of the place is withdrawn.
+    fn try_depart(&mut self, place: u64) -> Result<(), Refusal>
+        ensures { Answers (called (ruled self.old) (Depart place)) result self.new }
+    {
+        self.checked()?;
+        let p = &mut self.places[index_of(place)?];
+        if !p.is_open() {
+            return Err(Refusal::NotOpen);
+        }
+        if !p.is_live() {
+            return Err(Refusal::NoJob);
+        }
+        *p = ended(Ending::Left, *p);
+        Ok(())
+    }
+
+    // A fresh table under this policy: 1 earliest deadline, 2 fixed priority. Any number may be asked for: C passes it, and one that is no
+    // policy is refused.
+    #[tactic(auto, unfolding(rules::specs::Call::set_up))]
+    pub fn set_up(policy: u64) -> Answer<()>
+        ensures { Answers (set_up policy) result.outcome result.table }
+    {
+        match Policy::try_from(policy) {
+            Ok(policy) => Answer {
+                outcome: Ok(()),
+                table: fresh_table(Some(policy)),
+            },
+            Err(refusal) => Answer {
+                outcome: Err(refusal),
+                table: fresh_table(None),
+            },
+        }
+    }
+
+    // Opens the place as this reserve.
+    pub fn open(self, place: u64, reserve: Reserve) -> Answer<()>
+        ensures { Answers (called (ruled self) (Open place reserve.level reserve.cap.0 reserve.gap.0)) result.outcome result.table }
+    {
+        self.after(|table| table.try_open(place, reserve))
+    }
+
+    // Closes the place: it returns to zeros, its total kept.
+    pub fn close(self, place: u64) -> Answer<()>
+        ensures { Answers (called (ruled self) (Close place)) result.outcome result.table }
+    {
+        self.after(|table| table.try_close(place))
     }
 
     // A job arrives at the place, asks for this many slots and wants them within this many ticks.
-    pub fn arrive(self, place: u64, budget: Span, away: Span) -> Answer
-        ensures { ArriveGives self place budget away result }
+    pub fn arrive(self, place: u64, request: Request) -> Answer<()>
+        ensures { Answers (called (ruled self) (Arrive place request.budget.0 request.away.0)) result.outcome result.table }
     {
-        let number = arrive_refusal(self, place, budget, away);
-        if number != DONE {
-            return Answer {
-                number,
-                table: self,
-            };
-        }
-        Answer {
-            number: DONE,
-            table: with_job(self, place, budget, away),
-        }
+        self.after(|table| table.try_arrive(place, request))
     }
 
     // The job of the place is withdrawn: gone with ending 1.
-    pub fn depart(self, place: u64) -> Answer
-        ensures { DepartGives self place result }
+    pub fn depart(self, place: u64) -> Answer<()>
+        ensures { Answers (called (ruled self) (Depart place)) result.outcome result.table }
     {
-        let number = depart_refusal(self, place);
-        if number != DONE {
-            return Answer {
-                number,
-                table: self,
-            };
-        }
-        let p = ended(LEFT, place_at(self, place));
-        Answer {
-            number: DONE,
-            table: with_place(self, place, p),
-        }
+        self.after(|table| table.try_depart(place))
     }
 }

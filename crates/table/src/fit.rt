@@ -1,65 +1,58 @@
 // Whether the live jobs fit: the test by sums, for any numbers. The crate rules proves it equal to the sentence on plans.
 
-ghost use Rattle.std.specs.Prelude.{◌≡◌, leb};
+ghost use Rattle.std.specs.Prelude.{◌≡◌, eqb};
+ghost use Rattle.std.specs.List.{list_all, sum_by};
 ghost use Rattle.rules.specs.Numbers.{place_count};
-ghost use Rattle.rules.specs.Fit.{due, demand, job_of, jobs_of, fits_by_sums};
+ghost use Rattle.rules.specs.Fit.{due, demand, job_of, jobs_of};
 ghost use Rattle.table.specs.Dress.{ruled};
-ghost use Rattle.table.specs.Leaves.{fits_at};
+ghost use Rattle.table.specs.Leaves.{fits_at, overfull};
 
 use crate::Table;
-use rules::{PLACES, Place};
+use rules::{Place, Policy};
 use time::{Instant, Span};
 
 // What the job of this place still needs by the deadline.
-fn due_by(deadline: Instant, p: Place) -> Span
-    ensures { result.0 ≡ due deadline.0 (job_of p) }
+#[tactic(auto, unfolding(rules::specs::Fit::due))]
+fn due_by(deadline: Instant, p: &Place) -> Span
+    ensures { result.0 ≡ due deadline.0 (job_of p.now) }
 {
-    if (p.live == 1) & (p.deadline.0 <= deadline.0) {
-        return p.remaining;
+    if p.is_live() && p.deadline <= deadline {
+        p.remaining
+    } else {
+        Span(0)
     }
-    Span(0)
 }
 
-// Whether the remaining slots of all live jobs up to the deadline are at most the span.
-fn demand_is_within(t: Table, deadline: Instant, span: Span) -> bool
-    ensures { result ≡ leb (demand (jobs_of (ruled t)) place_count deadline.0) span.0 }
-{
-    let mut left = span;
-    let mut i: usize = 0;
-    while i < PLACES {
-        let p = t.places[i];
-        let needed = due_by(deadline, p);
-        if left.0 < needed.0 {
-            return false;
-        }
-        left = left.less(needed);
-        i += 1;
+impl Table {
+    // The remaining slots of all live jobs up to the deadline.
+    fn demand(&self, deadline: Instant) -> u128
+        ensures { result ≡ sum_by (λ p. due deadline.0 (job_of p)) self.entry.now.places }
+    {
+        self.places
+            .iter()
+            .map(|p| u128::from(due_by(deadline, p)))
+            .sum()
     }
-    true
-}
 
-// Whether the sum up to this place's deadline is small enough, where a job is live there.
-fn fits_at(t: Table, p: Place) -> bool
-    ensures { result ≡ fits_at (ruled t) p }
-{
-    if p.live != 1 {
-        return true;
+    // Whether the sum up to this place's deadline is small enough, where a job is live there.
+    fn fits_at(&self, p: &Place) -> bool
+        ensures { result ≡ fits_at (ruled self.entry.now) p.now }
+    {
+        !p.is_live() || self.demand(p.deadline) <= u128::from(p.deadline.since(self.now))
     }
-    let coming = p.deadline.since(t.now);
-    demand_is_within(t, p.deadline, coming)
-}
 
-// Whether the sum is small enough at each live deadline.
-pub(crate) fn fits(t: Table) -> bool
-    ensures { result ≡ fits_by_sums (ruled t) }
-{
-    let mut i: usize = 0;
-    while i < PLACES {
-        let p = t.places[i];
-        if !fits_at(t, p) {
-            return false;
-        }
-        i += 1;
+    // Whether the sum is small enough at each live deadline.
+    fn fits(&self) -> bool
+        ensures { result ≡ list_all (fits_at (ruled self.entry.now)) self.entry.now.places }
+    {
+        self.places.iter().all(|p| self.fits_at(p))
     }
-    true
+
+    // Under earliest deadline, whether the live jobs do not fit.
+    #[tactic(auto, using(crate::proofs::Clauses::fits_each))]
+    pub(crate) fn is_overfull(&self) -> bool
+        ensures { result ≡ overfull (ruled self.entry.now) }
+    {
+        self.is_under(Policy::EarliestDeadline) && !self.fits()
+    }
 }

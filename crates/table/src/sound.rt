@@ -1,72 +1,64 @@
-// Which tables are sound: paper 01's clauses, each a function, decided for any numbers.
+// Which tables are sound: the clauses of the rules, each a function, decided for any numbers.
 
-ghost use Rattle.std.specs.Prelude.{◌≡◌};
-ghost use Rattle.rules.specs.Sound.{closed_is_zero, open_in_bounds, live_in_bounds, no_job_is_zero, sound_place, sound_places, totals_add_up};
+ghost use Rattle.std.specs.Prelude.{◌≡◌, true, false, MatchResult};
+ghost use Rattle.std.specs.List.{list_all, sum_by};
+ghost use Rattle.rules.specs.declared.Refusal.TheVariants.{NotSound};
+ghost use Rattle.rules.specs.Sound.{closed_is_zero, open_in_bounds, live_in_bounds, no_job_is_zero, known_policy, sound, sound_place, totals_add_up};
 ghost use Rattle.table.specs.Dress.{ruled, SoundGives};
 
 use crate::Table;
-use crate::fit::fits;
-use rules::{
-    EARLIEST_DEADLINE, FIXED_PRIORITY, LAST_LEVEL, LAST_TICK, LATE, LONGEST_SPAN, PLACES, Place,
-};
+use rules::{Ending, LAST_LEVEL, LAST_TICK, LONGEST_SPAN, Place, Policy, Refusal};
 use time::{Instant, Span};
 
 // A closed place is zero in everything but its total.
-fn closed_is_zero(p: Place) -> bool
-    ensures { result ≡ closed_is_zero p }
+fn closed_is_zero(p: &Place) -> bool
+    ensures { result ≡ closed_is_zero p.now }
 {
-    (p.opened == 0)
-        & (p.level == 0)
-        & (p.cap.0 == 0)
-        & (p.gap.0 == 0)
-        & (p.next.0 == 0)
-        & (p.live == 0)
-        & (p.budget.0 == 0)
-        & (p.remaining.0 == 0)
-        & (p.deadline.0 == 0)
-        & (p.ending == 0)
+    *p == Place {
+        total: p.total,
+        ..Place::default()
+    }
 }
 
-// An open place has level ≤ 7, 1 ≤ C ≤ T ≤ 1,000,000, next ≤ now + T, ending 0 to 3.
-fn open_in_bounds(now: Instant, p: Place) -> bool
-    ensures { result ≡ open_in_bounds now.0 p }
+// An open place has level ≤ 7, 1 ≤ cap ≤ gap ≤ 1,000,000, next ≤ now + gap (a difference, since no word cuts it off), ending 0 to 3.
+fn open_in_bounds(now: Instant, p: &Place) -> bool
+    ensures { result ≡ open_in_bounds now.0 p.now }
 {
-    let gap_end = now.plus(p.gap);
-    (p.opened == 1)
-        & (p.level <= LAST_LEVEL)
-        & (1 <= p.cap.0)
-        & (p.cap.0 <= p.gap.0)
-        & (p.gap.0 <= LONGEST_SPAN)
-        & (p.next.0 <= gap_end.0)
-        & (p.ending <= LATE)
+    p.is_open()
+        && (p.level <= LAST_LEVEL)
+        && (Span(1) <= p.cap)
+        && (p.cap <= p.gap)
+        && (p.gap <= LONGEST_SPAN)
+        && (p.next.since(now) <= p.gap)
+        && (p.ending <= Ending::Late as u64)
 }
 
-// No live job: b, remaining and deadline are 0.
-fn no_job_is_zero(p: Place) -> bool
-    ensures { result ≡ no_job_is_zero p }
+// No live job: budget, remaining and deadline are 0.
+fn no_job_is_zero(p: &Place) -> bool
+    ensures { result ≡ no_job_is_zero p.now }
 {
-    (p.live == 0) & (p.budget.0 == 0) & (p.remaining.0 == 0) & (p.deadline.0 == 0)
+    (p.live == 0) && (p.budget == Span(0)) && (p.remaining == Span(0)) && (p.deadline == Instant(0))
 }
 
-// A live job has ending 0, 1 ≤ remaining ≤ b ≤ C, b − remaining ≤ total, now < deadline ≤ 4,000,000,000, deadline ≤ now + 1,000,000.
-fn live_in_bounds(now: Instant, p: Place) -> bool
-    ensures { result ≡ live_in_bounds now.0 p }
+// A live job has ending 0, 1 ≤ remaining ≤ budget ≤ cap, budget − remaining ≤ total, now < deadline ≤ 4,000,000,000,
+// deadline ≤ now + 1,000,000.
+fn live_in_bounds(now: Instant, p: &Place) -> bool
+    ensures { result ≡ live_in_bounds now.0 p.now }
 {
-    let given = p.budget.less(p.remaining);
-    let farthest = now.plus(Span(LONGEST_SPAN));
-    (p.live == 1)
-        & (p.ending == 0)
-        & (1 <= p.remaining.0)
-        & (p.remaining.0 <= p.budget.0)
-        & (p.budget.0 <= p.cap.0)
-        & (given.0 <= p.total.0)
-        & (now.0 < p.deadline.0)
-        & (p.deadline.0 <= LAST_TICK)
-        & (p.deadline.0 <= farthest.0)
+    p.is_live()
+        && (p.ending == 0)
+        && (Span(1) <= p.remaining)
+        && (p.remaining <= p.budget)
+        && (p.budget <= p.cap)
+        && (p.budget.less(p.remaining) <= p.total)
+        && (now < p.deadline)
+        && (p.deadline <= LAST_TICK)
+        && (p.deadline.since(now) <= LONGEST_SPAN)
 }
 
-fn place_is_sound(now: Instant, p: Place) -> bool
-    ensures { result ≡ sound_place now.0 p }
+#[tactic(auto, unfolding(rules::specs::Sound::sound_place))]
+fn place_is_sound(now: Instant, p: &Place) -> bool
+    ensures { result ≡ sound_place now.0 p.now }
 {
     if p.opened == 0 {
         return closed_is_zero(p);
@@ -77,61 +69,55 @@ fn place_is_sound(now: Instant, p: Place) -> bool
     open_in_bounds(now, p) & live_in_bounds(now, p)
 }
 
-fn places_are_sound(t: Table) -> bool
-    ensures { result ≡ sound_places (ruled t) }
-{
-    let now = t.now;
-    let mut i: usize = 0;
-    while i < PLACES {
-        let p = t.places[i];
-        if !place_is_sound(now, p) {
-            return false;
-        }
-        i += 1;
-    }
-    true
-}
-
-// The totals plus idle equal now.
-fn clock_adds_up(t: Table) -> bool
-    ensures { result ≡ totals_add_up (ruled t) }
-{
-    let mut left = t.now.since(Instant(0));
-    if left.0 < t.idle.0 {
-        return false;
-    }
-    left = left.less(t.idle);
-    let mut i: usize = 0;
-    while i < PLACES {
-        let p = t.places[i];
-        if left.0 < p.total.0 {
-            return false;
-        }
-        left = left.less(p.total);
-        i += 1;
-    }
-    left.0 == 0
-}
-
 impl Table {
-    // Whether the table is sound.
-    pub fn is_sound(self) -> bool
-        ensures { SoundGives self result }
+    fn places_are_sound(&self) -> bool
+        ensures { result ≡ list_all (sound_place self.entry.now.now.0) self.entry.now.places }
     {
-        let known_policy = (self.policy == EARLIEST_DEADLINE) | (self.policy == FIXED_PRIORITY);
-        let on_the_clock = self.now.0 <= LAST_TICK;
-        if !(known_policy & on_the_clock) {
-            return false;
+        self.places.iter().all(|p| place_is_sound(self.now, p))
+    }
+
+    // The slots ever given to the places.
+    fn given(&self) -> u128
+        ensures { result ≡ sum_by (λ p. p.total.0) self.entry.now.places }
+    {
+        self.places.iter().map(|p| u128::from(p.total)).sum()
+    }
+
+    // The totals plus idle equal now.
+    fn clock_adds_up(&self) -> bool
+        ensures { result ≡ totals_add_up (ruled self.entry.now) }
+    {
+        let idle = u128::from(self.idle);
+        u128::from(self.now.since(Instant(0))).checked_sub(self.given()) == Some(idle)
+    }
+
+    // The policy is one of the two.
+    fn has_a_policy(&self) -> bool
+        ensures { result ≡ known_policy self.entry.now.policy }
+    {
+        Policy::try_from(self.policy).is_ok()
+    }
+
+    // Whether the table is sound.
+    #[tactic(auto, using(crate::proofs::Clauses::sound_in_turn, crate::proofs::Laws::is_le_leb))]
+    pub fn is_sound(&self) -> bool
+        ensures { SoundGives self.entry.now result }
+    {
+        self.has_a_policy()
+            && self.now <= LAST_TICK
+            && self.clock_adds_up()
+            && self.places_are_sound()
+            && !self.is_overfull()
+    }
+
+    // A table that is not sound is refused.
+    pub(crate) fn checked(&self) -> Result<(), Refusal>
+        ensures { MatchResult result (λ _. sound (ruled self.entry.now) ≡ true) (λ e. (e ≡ NotSound) × (sound (ruled self.entry.now) ≡ false)) }
+    {
+        if self.is_sound() {
+            Ok(())
+        } else {
+            Err(Refusal::NotSound)
         }
-        if !clock_adds_up(self) {
-            return false;
-        }
-        if !places_are_sound(self) {
-            return false;
-        }
-        if self.policy == FIXED_PRIORITY {
-            return true;
-        }
-        fits(self)
     }
 }

@@ -1,5 +1,5 @@
 -- The two kinds of time, and what each operation gives for every two numbers.
-use Rattle.std.specs.Prelude.{◌≡◌, ℕ, ◌+◌, ◌-◌, min}
+use Rattle.std.specs.Prelude.{◌≡◌, ℕ, ◌+◌, ◌-◌, ◌≤◌, min}
 use Rattle.time.specs.declared.Instant.{Instant}
 use Rattle.time.specs.declared.Span.{Span}
 
@@ -28,3 +28,7 @@ Longer s t r = r.0 ≡ min (s.0 + t.0) largest
 -- r is what is left of s without t; nought where t is not shorter
 abbrev pub Less : Span → Span → Span → Type 0
 Less s t r = r.0 ≡ s.0 - t.0
+
+-- n is the number of the span s, which a word holds
+abbrev pub Widened : Span → ℕ → Type 0
+Widened s n = (n ≡ s.0) × (n ≤ largest)
