@@ -1,9 +1,5 @@
 -- Each exported contract allows one result, for every input; of an advance, one record too. And no two fields have the same mark.
-use mathlib.Core.Path.{◌≡◌, sym, ◌∙◌}
-use mathlib.Core.Logic.{inl, inr}
-use Prim.Native.Nat.{ℕ, ◌<◌}
-use mathlib.Core.List.{List}
-use native.Mathlib.Omega.{arith}
+use Rattle.std.proofs.Common.{◌≡◌, sym, ◌∙◌, List, ℕ, ◌<◌, arith}
 use Rattle.table.specs.declared.Table.{Table}
 use Rattle.time.specs.declared.Span.{Span}
 use Rattle.board.specs.declared.crossing.Answer.{Answer}
@@ -47,10 +43,7 @@ pub layout_write_pinned : (q r : Turn) → Marked q → Marked r → q ≡ r
 layout_write_pinned q r e f = e ∙ sym f
 
 pub layout_read_pinned : (t : Turn) (q r : ℕ) → MarkedNumber t q → MarkedNumber t r → q ≡ r
-layout_read_pinned t q r (inl (x, e)) (inl (y, f)) = e ∙ sym f
-layout_read_pinned t q r (inl (x, e)) (inr (n, f)) = absurd (n x)
-layout_read_pinned t q r (inr (n, e)) (inl (y, f)) = absurd (n y)
-layout_read_pinned t q r (inr (n, e)) (inr (k, f)) = e ∙ sym f
+layout_read_pinned t q r e f = grind arith
 
 -- a place has fewer than sixteen fields, and so has a turn beside its places
 pub marks_of_places_differ : (i j k l : ℕ) → k < 16 → l < 16 → place_mark i k ≡ place_mark j l → (i ≡ j) × (k ≡ l)

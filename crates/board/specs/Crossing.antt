@@ -4,7 +4,7 @@ use Rattle.time.specs.declared.Span.{Span}
 use Rattle.rules.specs.declared.Refusal.{Refusal}
 use Rattle.rules.specs.Kinds.{outcome_number}
 use Rattle.rules.specs.Election.{number}
-use Rattle.rules.specs.Call.{Open, Close, Arrive, Depart, Elect, Slot, Advance, Result as Ruled, called, set_up}
+use Rattle.rules.specs.Call.{Open, Close, Arrive, Depart, Elect, Slot, Advance, Result as RuledResult, called, set_up}
 use Rattle.table.specs.declared.Table.{Table}
 use Rattle.table.specs.declared.Answer.{Answer as Tabled}
 use Rattle.table.specs.Dress.{ruled, dressed, whose}
@@ -23,13 +23,13 @@ abbrev pub IsTurn : Tabled (Option ℕ) → Turn → Type 0
 IsTurn a r = (r.number ≡ outcome_number a.outcome) × ((r.place ≡ number (whose a.outcome)) × (r.table ≡ a.table))
 
 -- the rules' result as it crosses
-abbrev pub answered : Ruled → Answer
+abbrev pub answered : RuledResult → Answer
 answered r = record { number = r.answer; table = dressed r.table }
 
-abbrev pub choice : Ruled → Choice
+abbrev pub choice : RuledResult → Choice
 choice r = record { number = r.answer; place = r.place }
 
-abbrev pub turn : Ruled → Turn
+abbrev pub turn : RuledResult → Turn
 turn r = record { number = r.answer; place = r.place; table = dressed r.table }
 
 -- What each exported call gives.

@@ -2,7 +2,7 @@
 //
 // A turn holds a whole table. Field by field, the number is MARKS + 1, the place MARKS + 2, the policy, the clock and the idle count
 // MARKS + 3 to MARKS + 5, and the fields of place i in their order MARKS + 16 (i + 1) + 1 to MARKS + 16 (i + 1) + 11. What is written and read
-// is the struct of numbers that C declares, and no answer of the crate table.
+// is the struct of numbers that C declares, and no answer of the crate table; whether all is as written C is told as a number.
 
 ghost use Rattle.std.specs.Prelude.{◌≡◌, ◌<◌};
 ghost use Rattle.rules.specs.Numbers.{place_count};

@@ -5,7 +5,8 @@
 // Rust.
 // What is proved: each call gives what the rules say, in numbers (specs/Crossing.antt cites `called` of the crate rules), so every promise of
 // the crate rules holds of the library; what the trial writes and reads is pinned in every field.
-// The names, the flat figures and the numbers are those of the header, so each call is a line of its own that passes them on.
+// This is the C interface: names, flat figures, a start beside the record, and numbers are those of the header, so each call is a line of its
+// own that passes them on.
 // What a caller should know: nothing has to be checked first. Every pattern of numbers is a table, and one that is not sound is answered
 // with 1. What a caller in another language owes is written in the header.
 

@@ -1,5 +1,6 @@
 // The bench: a table under trial. Each step makes a real call, prints it and what was answered, and compares with what the notebook
-// says; a mismatch is named where it happens. Steps take the figures flat, as the notebook writes them: a struct for each pair is no plainer.
+// says; a mismatch is named where it happens. Steps take the figures flat, as the notebook writes them: structs for them are no plainer. Outcomes are
+// compared by their numbers, in which a mismatch is told.
 
 use rules::{Ending, Policy, Refusal};
 use std::io;
@@ -87,6 +88,14 @@ impl<'a, P: Print> Bench<'a, P> {
             Ok(_) => print!(self.rt; " done")?,
             Err(refusal) => print!(self.rt; " refused with {}", *refusal as u64)?,
         }
+        self.compare_outcomes(outcome, wanted)
+    }
+
+    fn compare_outcomes<T>(
+        &mut self,
+        outcome: &Result<T, Refusal>,
+        wanted: &Result<T, Refusal>,
+    ) -> io::Result<()> {
         self.compare(number_of(outcome), number_of(wanted))
     }
 
@@ -143,7 +152,7 @@ impl<'a, P: Print> Bench<'a, P> {
         let answer = self.table.advance(Span(wanted.len() as u64), &mut found, 0);
         self.table = answer.table;
         self.show_slots(&found, wanted)?;
-        self.compare(number_of(&answer.outcome), 0)
+        self.compare_outcomes(&answer.outcome, &Ok(()))
     }
 
     // An advance into a record whose bytes do not matter; the start stands beside it, as in the call.

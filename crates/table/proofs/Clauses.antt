@@ -1,13 +1,12 @@
 -- What the code asks of each place in turn is what the rules ask of a table.
-use Rattle.std.proofs.Common.{◌≡◌, refl, Bool, true, false, ◌&&◌, ◌||◌, not, ℕ, ◌+◌, ◌≤◌, ◌<◌, length, leb, eqb, arith}
-use borrow.Author.Tests.{eq-eqb, eqb-true}
+use Rattle.std.proofs.Common.{◌≡◌, true, ◌&&◌, not, ℕ, ◌+◌, ◌≤◌, ◌<◌, length, leb, eq-eqb, arith}
+use Rattle.std.proofs.lemmas.Bool.Decides.{nat_tests}
 use Rattle.std.specs.List.{list_all}
 use Rattle.time.specs.Kinds.{largest}
-use Rattle.rules.specs.declared.Place.{Place}
-use Rattle.rules.specs.Numbers.{place_count, last_tick, longest_span, earliest_deadline, fixed_priority}
+use Rattle.rules.specs.Numbers.{place_count, last_tick}
 use Rattle.rules.specs.Table.{Table, at, zero_place}
 use Rattle.rules.specs.Fit.{fits_by_sums, sums_fit}
-use Rattle.rules.specs.Sound.{SoundPlace, closed, resting, busy, sound_place, sound_places, known_policy, totals_add_up, sound}
+use Rattle.rules.specs.Sound.{sound_place, known_policy, totals_add_up, sound}
 use Rattle.rules.proofs.Facts.{sound_holds}
 use Rattle.table.specs.Leaves.{fits_at, overfull}
 use Rattle.table.proofs.Loops.{all_each}
@@ -20,23 +19,8 @@ fits_each t e = all_each (fits_at t) zero_place t.places place_count e
 pub sound_in_turn : (t : Table) → length t.places ≡ place_count
     → sound t ≡ ((((known_policy t.policy && leb t.now.0 last_tick) && totals_add_up t) && list_all (sound_place t.now.0) t.places) && not (overfull t))
 unfolding sound
-sound_in_turn t e =
-    rw (eq-eqb (length t.places) place_count e, all_each (sound_place t.now.0) zero_place t.places place_count e)
-    (under (eqb t.policy earliest_deadline) (eqb t.policy fixed_priority) (leb t.now.0 last_tick) (totals_add_up t) (sound_places t) (fits_by_sums t) (one_policy t.policy))
-  where
-    one_policy : (n : ℕ) → eqb n earliest_deadline ≡ true → eqb n fixed_priority ≡ false
-    one_policy n e = rw (eqb-true n earliest_deadline e) refl
-
-    under : (one two a b c f : Bool) → (one ≡ true → two ≡ false) → ((((one || two) && a) && b) && c) && (two || f) ≡ ((((one || two) && a) && b) && c) && not (one && not f)
-    under true two a b c f h = rw (h refl) (grind arith)
-    under false true a b c f h = refl
-    under false false a b c f h = grind arith
+sound_in_turn t e = rw (eq-eqb (length t.places) place_count e, all_each (sound_place t.now.0) zero_place t.places place_count e) (grind (arith, nat_tests))
 
 -- a sound table has room for a job that ends on the clock: its gap is short
 pub job_room : (t : Table) (place away : ℕ) → sound t ≡ true → place < place_count → t.now.0 + away ≤ last_tick → (t.now.0 + (at t place).gap.0 ≤ largest) × (t.now.0 + away ≤ largest)
-job_room t place away e h k = let s = sound_holds t e in (omega (arith, gap_short t.now.0 (at t place) (s.places place h)), omega arith)
-  where
-    gap_short : (now : ℕ) (p : Place) → SoundPlace now p → p.gap.0 ≤ longest_span
-    gap_short now p (closed z) = omega arith
-    gap_short now p (resting o z) = o.gap
-    gap_short now p (busy o j) = o.gap
+job_room t place away e h k = let s = (sound_holds t e).places place h in grind (arith, sound_holds t e)

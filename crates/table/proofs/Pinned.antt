@@ -1,9 +1,9 @@
 -- Each public contract of this crate allows one result, for every input; of an advance, one record too.
-use Rattle.std.proofs.Common.{List, ◌≡◌, refl, sym, ap, ◌∙◌, Bool, true, false, true≢false, ℕ, Option, None, Some, Result}
+use Rattle.std.proofs.Common.{List, ◌≡◌, refl, sym, ap, ◌∙◌, Bool, ℕ, arith, Option, Result}
 use Rattle.rules.specs.declared.Refusal.{Refusal}
 use Rattle.rules.specs.Kinds.{outcome_number}
-use Rattle.rules.specs.Election.{Who, nobody, place, number}
-use Rattle.rules.specs.Call.{Result as Ruled}
+use Rattle.rules.specs.Election.{Who, number}
+use Rattle.rules.specs.Call.{Result as RuledResult}
 use Rattle.rules.proofs.Pinned.{outcome_pinned}
 use Rattle.table.specs.declared.Table.{Table}
 use Rattle.table.specs.declared.Answer.{Answer}
@@ -12,43 +12,26 @@ use Rattle.table.specs.Dress.{dressed, who, whose, Answers, SoundGives}
 pub is_sound_pinned : (t : Table) (q r : Bool) → SoundGives t q → SoundGives t r → q ≡ r
 is_sound_pinned t q r e f = e ∙ sym f
 
--- an answer that says no more than that the call is done: set up, open, close, arrive, depart, advance
-pub answer_pinned : (c : Ruled) (q r : Answer Unit) → Answers c q.outcome q.table → Answers c r.outcome r.table → q ≡ r
-answer_pinned c q r e f = same (outcome_pinned q.outcome r.outcome (e.0 ∙ sym f.0) (λ a b g h. refl)) (ap dressed (e.1 ∙ sym f.1))
-  where
-    same : q.outcome ≡ r.outcome → q.table ≡ r.table → q ≡ r
-    same o t = λ d. record { outcome = o d; table = t d }
+same : {A : Type 0} (q r : Answer A) → q.outcome ≡ r.outcome → q.table ≡ r.table → q ≡ r
+same q r o t = grind arith
 
-place_is_somebody : (p : ℕ) → place p ≡ nobody → ⊥
-place_is_somebody p e = true≢false (ap somebody e)
-  where
-    somebody : Who → Bool
-    somebody nobody = false
-    somebody (place p) = true
+-- an answer that says no more than that the call is done: set up, open, close, arrive, depart, advance
+pub answer_pinned : (c : RuledResult) (q r : Answer Unit) → Answers c q.outcome q.table → Answers c r.outcome r.table → q ≡ r
+answer_pinned c q r e f = same q r (outcome_pinned q.outcome r.outcome (e.0 ∙ sym f.0) (λ a b g h. refl)) (ap dressed (e.1 ∙ sym f.1))
 
 who_pinned : (a b : Option ℕ) → who a ≡ who b → a ≡ b
-who_pinned None None e = refl
-who_pinned None (Some q) e = absurd (place_is_somebody q (sym e))
-who_pinned (Some p) None e = absurd (place_is_somebody p e)
-who_pinned (Some p) (Some q) e = ap Some (ap number_in e)
-  where
-    number_in : Who → ℕ
-    number_in nobody = 0
-    number_in (place p) = p
+who_pinned a b e = grind arith
 
 -- what the election says
 pub election_pinned : (q r : Result (Option ℕ) Refusal) (n : ℕ) (w : Who) → outcome_number q ≡ n → outcome_number r ≡ n → whose q ≡ w → whose r ≡ w → q ≡ r
-election_pinned q r n w e f g h = outcome_pinned q r (e ∙ sym f) (λ a b i j. who_pinned a b (sym (ap whose i) ∙ g ∙ sym h ∙ ap whose j))
+election_pinned q r n w e f g h = outcome_pinned q r (e ∙ sym f) (λ a b i j. who_pinned a b (cc))
 
 -- what a slot says
-pub slot_pinned : (c : Ruled) (w : Who) (q r : Answer (Option ℕ)) → Answers c q.outcome q.table → Answers c r.outcome r.table → whose q.outcome ≡ w → whose r.outcome ≡ w → q ≡ r
-slot_pinned c w q r e f g h = same (election_pinned q.outcome r.outcome c.answer w e.0 f.0 g h) (ap dressed (e.1 ∙ sym f.1))
-  where
-    same : q.outcome ≡ r.outcome → q.table ≡ r.table → q ≡ r
-    same o t = λ d. record { outcome = o d; table = t d }
+pub slot_pinned : (c : RuledResult) (w : Who) (q r : Answer (Option ℕ)) → Answers c q.outcome q.table → Answers c r.outcome r.table → whose q.outcome ≡ w → whose r.outcome ≡ w → q ≡ r
+slot_pinned c w q r e f g h = same q r (election_pinned q.outcome r.outcome c.answer w e.0 f.0 g h) (ap dressed (e.1 ∙ sym f.1))
 
 -- what an advance says, and the record
-pub advance_pinned : (c : Ruled) (q r : Answer Unit) (x y : List ℕ) → Answers c q.outcome q.table → Answers c r.outcome r.table → x ≡ c.bytes → y ≡ c.bytes → (q ≡ r) × (x ≡ y)
+pub advance_pinned : (c : RuledResult) (q r : Answer Unit) (x y : List ℕ) → Answers c q.outcome q.table → Answers c r.outcome r.table → x ≡ c.bytes → y ≡ c.bytes → (q ≡ r) × (x ≡ y)
 advance_pinned c q r x y e f g h = (answer_pinned c q r e f, g ∙ sym h)
 
 pub number_of_pinned : {A : Type 0} (outcome : Result A Refusal) (q r : ℕ) → q ≡ outcome_number outcome → r ≡ outcome_number outcome → q ≡ r

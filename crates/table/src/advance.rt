@@ -24,7 +24,7 @@ impl Table {
         }
     }
 
-    // n slots, each written into the record from the start on. The start stands beside the record, and no slice from it on is taken, since a
+    // n slots, each written into the record from the start on. The start is a parameter beside the record, and no slice stands for both, since a
     // start beyond the record's end is refused by its number.
     #[tactic(auto, unfolding(rules::specs::Call::called, rules::specs::Call::refusal, rules::specs::Call::checks, rules::specs::Call::judge, rules::specs::Call::effect, rules::specs::Call::lent))]
     fn try_advance(&mut self, n: Span, slots: &mut [u8], start: usize) -> Result<(), Refusal>
@@ -45,7 +45,7 @@ impl Table {
     }
 
     // n slots, each written into the record from the start on; no other byte changes. The clause of `after` says of a closure what it makes of
-    // the table, and not what it writes into the record, so it is not used here.
+    // the table, and not what it writes into the record, so it is not used here. The start is beside the record for the reason above.
     pub fn advance(mut self, n: Span, slots: &mut [u8], start: usize) -> Answer<()>
         ensures answer { Answers (called (ruled self) (Advance n.0 slots.old start)) result.outcome result.table }
         ensures bytes { slots.new ≡ (called (ruled self) (Advance n.0 slots.old start)).bytes }

@@ -52,11 +52,7 @@ impl Table {
     pub(crate) fn rule(&self) -> Policy
         ensures { result ≡ rule_of self.entry.now.policy }
     {
-        if self.is_under(Policy::EarliestDeadline) {
-            Policy::EarliestDeadline
-        } else {
-            Policy::FixedPriority
-        }
+        Policy::try_from(self.policy).unwrap_or(Policy::FixedPriority)
     }
 
     // The place elected, if any.

@@ -59,7 +59,8 @@ fn unless_late(now: Instant, p: Place) -> Place
 }
 
 impl Table {
-    // Steps 2 and 3: the elected place is served, or idle grows by one; now grows by one.
+    // Steps 2 and 3: the elected place is served, or idle grows by one; now grows by one. That there is room for it is asked here and kept by no
+    // type, since these counts grow.
     fn serve(&mut self, elected: Option<usize>)
         requires { RoomToServe self.old elected }
         ensures { self.new ≡ after_serving (who elected) self.old }

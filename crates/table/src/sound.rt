@@ -20,42 +20,45 @@ fn closed_is_zero(p: &Place) -> bool
     }
 }
 
-// An open place has level ≤ 7, 1 ≤ cap ≤ gap ≤ 1,000,000, next ≤ now + gap (a difference, since no word cuts it off), ending 0 to 3.
+// An open place has level ≤ 7, 1 ≤ cap ≤ gap ≤ 1,000,000, next ≤ now + gap, ending 0 to 3. The sum is asked as a difference,
+// which no word cuts off.
 fn open_in_bounds(now: Instant, p: &Place) -> bool
     ensures { result ≡ open_in_bounds now.0 p.now }
 {
     p.is_open()
-        && (p.level <= LAST_LEVEL)
-        && (Span(1) <= p.cap)
-        && (p.cap <= p.gap)
-        && (p.gap <= LONGEST_SPAN)
-        && (p.next.since(now) <= p.gap)
-        && (p.ending <= Ending::Late as u64)
+        && p.level <= LAST_LEVEL
+        && Span(1) <= p.cap
+        && p.cap <= p.gap
+        && p.gap <= LONGEST_SPAN
+        && p.next.since(now) <= p.gap
+        && p.ending <= Ending::Late as u64
 }
 
 // No live job: budget, remaining and deadline are 0.
 fn no_job_is_zero(p: &Place) -> bool
     ensures { result ≡ no_job_is_zero p.now }
 {
-    (p.live == 0) && (p.budget == Span(0)) && (p.remaining == Span(0)) && (p.deadline == Instant(0))
+    p.live == 0 && p.budget == Span(0) && p.remaining == Span(0) && p.deadline == Instant(0)
 }
 
 // A live job has ending 0, 1 ≤ remaining ≤ budget ≤ cap, budget − remaining ≤ total, now < deadline ≤ 4,000,000,000,
 // deadline ≤ now + 1,000,000.
+#[tactic(auto, using(crate::proofs::Laws::is_le_leb))]
 fn live_in_bounds(now: Instant, p: &Place) -> bool
     ensures { result ≡ live_in_bounds now.0 p.now }
 {
     p.is_live()
-        && (p.ending == 0)
-        && (Span(1) <= p.remaining)
-        && (p.remaining <= p.budget)
-        && (p.budget <= p.cap)
-        && (p.budget.less(p.remaining) <= p.total)
-        && (now < p.deadline)
-        && (p.deadline <= LAST_TICK)
-        && (p.deadline.since(now) <= LONGEST_SPAN)
+        && p.ending == 0
+        && Span(1) <= p.remaining
+        && p.remaining <= p.budget
+        && p.budget <= p.cap
+        && p.budget.less(p.remaining) <= p.total
+        && now < p.deadline
+        && p.deadline <= LAST_TICK
+        && p.deadline.since(now) <= LONGEST_SPAN
 }
 
+// A closed place, one without a job, or one with a live job on an open place.
 #[tactic(auto, unfolding(rules::specs::Sound::sound_place))]
 fn place_is_sound(now: Instant, p: &Place) -> bool
     ensures { result ≡ sound_place now.0 p.now }
@@ -64,12 +67,13 @@ fn place_is_sound(now: Instant, p: &Place) -> bool
         return closed_is_zero(p);
     }
     if p.live == 0 {
-        return open_in_bounds(now, p) & no_job_is_zero(p);
+        return open_in_bounds(now, p) && no_job_is_zero(p);
     }
-    open_in_bounds(now, p) & live_in_bounds(now, p)
+    open_in_bounds(now, p) && live_in_bounds(now, p)
 }
 
 impl Table {
+    // Each place is sound.
     fn places_are_sound(&self) -> bool
         ensures { result ≡ list_all (sound_place self.entry.now.now.0) self.entry.now.places }
     {
