@@ -1,6 +1,6 @@
 // The bench: a table under trial. Each step makes a real call, prints it and what was answered, and compares with what the notebook
-// says; a mismatch is named where it happens. Steps take the figures flat, as the notebook writes them: structs for them are no plainer. Outcomes are
-// compared by their numbers, in which a mismatch is told.
+// says; a mismatch is named where it happens. Steps take the figures flat, as the notebook writes them: structs for them are no plainer.
+// Outcomes are compared by their numbers, in which a mismatch is told.
 
 use rules::{Ending, Policy, Refusal};
 use std::io;
@@ -91,6 +91,7 @@ impl<'a, P: Print> Bench<'a, P> {
         self.compare_outcomes(outcome, wanted)
     }
 
+    // Compares what a call came to.
     fn compare_outcomes<T>(
         &mut self,
         outcome: &Result<T, Refusal>,

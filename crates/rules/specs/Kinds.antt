@@ -17,6 +17,7 @@ ending_number Left = left
 ending_number Spent = spent
 ending_number Late = late
 
+-- the numbers that `checks` of Call.antt gives; they stand in both, there beside what each is given for, and the clauses of a call tie them
 abbrev pub refusal_number : Refusal → ℕ
 refusal_number NotSound = 1
 refusal_number NoPlace = 2

@@ -49,7 +49,7 @@ impl Table {
     }
 
     // The policy by which the slots go: earliest deadline under its number, and fixed priority under any other.
-    pub(crate) fn rule(&self) -> Policy
+    fn rule(&self) -> Policy
         ensures { result ≡ rule_of self.entry.now.policy }
     {
         Policy::try_from(self.policy).unwrap_or(Policy::FixedPriority)

@@ -49,7 +49,6 @@ impl Table {
     }
 
     // Under earliest deadline, whether the live jobs do not fit.
-    #[tactic(auto, using(crate::proofs::Clauses::fits_each))]
     pub(crate) fn is_overfull(&self) -> bool
         ensures { result ≡ overfull (ruled self.entry.now) }
     {

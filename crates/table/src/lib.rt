@@ -2,8 +2,8 @@
 //
 // What is here: the table, its soundness test, and the calls: set up, open, close, arrive, depart, the election, one slot, and advance
 // over n slots into a lent record. Each takes the whole table and hands it back with its answer; the election and the test only read it.
-// What is proved: each call gives exactly what the rules say (specs/Dress.antt cites `called` of the crate rules), for every table,
-// sound or not, and every argument; so every promise of the crate rules holds of these functions.
+// What is proved: each call gives exactly what the rules say (its clauses cite `called` of the crate rules, in the words of
+// specs/Dress.antt), for every table, sound or not, and every argument; so every promise of the crate rules holds of these functions.
 // What a caller should know: nothing has to be checked first. The outcome of an answer is what the call comes to, or why it is refused;
 // a refused call hands back the table and the record as they came.
 

@@ -42,7 +42,7 @@ fn no_job_is_zero(p: &Place) -> bool
 }
 
 // A live job has ending 0, 1 ≤ remaining ≤ budget ≤ cap, budget − remaining ≤ total, now < deadline ≤ 4,000,000,000,
-// deadline ≤ now + 1,000,000.
+// deadline ≤ now + 1,000,000, asked as a difference too.
 #[tactic(auto, using(crate::proofs::Laws::is_le_leb))]
 fn live_in_bounds(now: Instant, p: &Place) -> bool
     ensures { result ≡ live_in_bounds now.0 p.now }
