@@ -1,5 +1,6 @@
 -- What the functions below the calls give, where the rules have no name of their own for it.
-use Rattle.std.specs.Prelude.{Bool, true, cond, ◌&&◌, ◌||◌, not, map, ℕ, ◌+◌, ◌-◌, ◌<◌, leb, ltb, eqb, Option, None, Some}
+use Rattle.std.specs.Prelude.{◌≡◌, Bool, true, cond, ◌&&◌, ◌||◌, not, map, ℕ, ◌+◌, ◌-◌, ◌<◌, leb, ltb, eqb, Option, None, Some}
+use Rattle.time.specs.declared.Span.{Span}
 use Rattle.time.specs.Kinds.{instant, span}
 use Rattle.rules.specs.declared.Place.{Place}
 use Rattle.rules.specs.declared.Policy.{Policy}
@@ -13,6 +14,11 @@ use Rattle.rules.specs.Slot.{serve, idle_more, unless_late}
 use Rattle.table.specs.declared.Table.{Table}
 use Rattle.table.specs.Dress.{ruled}
 use Rattle.table.specs.declared.election.Lead.{Lead}
+
+-- what is left of a span without so many ticks; none where it is shorter
+abbrev pub IsLeft : Span → ℕ → Option Span → Type 0
+IsLeft s n None = s.0 < n
+IsLeft s n (Some r) = r.0 + n ≡ s.0
 
 -- the clause of the fit at one place's deadline
 abbrev pub fits_at : Ruled → Place → Bool

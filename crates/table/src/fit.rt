@@ -1,11 +1,12 @@
 // Whether the live jobs fit: the test by sums, for any numbers. The crate rules proves it equal to the sentence on plans.
 
-ghost use Rattle.std.specs.Prelude.{◌≡◌, eqb};
+ghost use Rattle.std.specs.Prelude.{◌≡◌, ℕ, eqb, leb};
 ghost use Rattle.std.specs.List.{list_all, sum_by};
+ghost use Rattle.std.specs.Fn.{FnReturnsAt};
 ghost use Rattle.rules.specs.Numbers.{place_count};
 ghost use Rattle.rules.specs.Fit.{due, demand, job_of, jobs_of};
 ghost use Rattle.table.specs.Dress.{ruled};
-ghost use Rattle.table.specs.Leaves.{fits_at, overfull};
+ghost use Rattle.table.specs.Leaves.{IsLeft, fits_at, overfull};
 
 use crate::Table;
 use rules::{Place, Policy};
@@ -24,21 +25,34 @@ fn due_by(deadline: Instant, p: &Place) -> Span
 }
 
 impl Table {
-    // The remaining slots of all live jobs up to the deadline.
-    fn demand(&self, deadline: Instant) -> u128
-        ensures { result ≡ sum_by (λ p. due deadline.0 (job_of p)) self.entry.now.places }
+    // What is left of a span after each place has taken its share of it; none where the shares are longer.
+    pub(crate) fn left_after<F: Fn(&Place) -> Span>(&self, span: Span, share: F) -> Option<Span>
+        requires { F.IsAlwaysCallable share }
+        ensures { (f : Place → ℕ) → ((p : Place) (s : Span) → FnReturnsAt F.Fn share p s → s.0 ≡ f p) → IsLeft span (sum_by f self.entry.now.places) result }
     {
-        self.places
-            .iter()
-            .map(|p| u128::from(due_by(deadline, p)))
-            .sum()
+        let mut left = span;
+        for p in &self.places {
+            let taken = share(p);
+            if left < taken {
+                return None;
+            }
+            left = left.less(taken);
+        }
+        Some(left)
+    }
+
+    // Whether the remaining slots of all live jobs up to the deadline are at most the span.
+    fn demand_is_within(&self, deadline: Instant, span: Span) -> bool
+        ensures { result ≡ leb (demand (jobs_of (ruled self.entry.now)) place_count deadline.0) span.0 }
+    {
+        self.left_after(span, |p| due_by(deadline, p)).is_some()
     }
 
     // Whether the sum up to this place's deadline is small enough, where a job is live there.
     fn fits_at(&self, p: &Place) -> bool
         ensures { result ≡ fits_at (ruled self.entry.now) p.now }
     {
-        !p.is_live() || self.demand(p.deadline) <= u128::from(p.deadline.since(self.now))
+        !p.is_live() || self.demand_is_within(p.deadline, p.deadline.since(self.now))
     }
 
     // Whether the sum is small enough at each live deadline.

@@ -1,7 +1,7 @@
 // Which tables are sound: the clauses of the rules, each a function, decided for any numbers.
 
 ghost use Rattle.std.specs.Prelude.{◌≡◌, true, false, MatchResult};
-ghost use Rattle.std.specs.List.{list_all, sum_by};
+ghost use Rattle.std.specs.List.{list_all};
 ghost use Rattle.rules.specs.declared.Refusal.TheVariants.{NotSound};
 ghost use Rattle.rules.specs.Sound.{closed_is_zero, open_in_bounds, live_in_bounds, no_job_is_zero, known_policy, sound, sound_place, totals_add_up};
 ghost use Rattle.table.specs.Dress.{ruled, SoundGives};
@@ -80,19 +80,11 @@ impl Table {
         self.places.iter().all(|p| place_is_sound(self.now, p))
     }
 
-    // The slots ever given to the places.
-    fn given(&self) -> u128
-        ensures { result ≡ sum_by (λ p. p.total.0) self.entry.now.places }
-    {
-        self.places.iter().map(|p| u128::from(p.total)).sum()
-    }
-
     // The totals plus idle equal now.
     fn clock_adds_up(&self) -> bool
         ensures { result ≡ totals_add_up (ruled self.entry.now) }
     {
-        let idle = u128::from(self.idle);
-        u128::from(self.now.since(Instant(0))).checked_sub(self.given()) == Some(idle)
+        self.left_after(self.now.since(Instant(0)), |p| p.total) == Some(self.idle)
     }
 
     // The policy is one of the two.

@@ -1,7 +1,7 @@
 // Two kinds of time. An instant is a tick on the clock, a span is a number of ticks.
 //
 // What is here: the two structs, and every sum and difference of them that the product needs. Adding a span to an instant is the
-// only operation on both kinds, and no other crate computes with the number inside, but for sums of spans in 128 bits and an advance's count.
+// only operation on both kinds, and no other crate computes with the number inside.
 // What is proved: each operation is total. A sum that does not fit a word is the largest word, so a comparison with any number
 // below that is exact; a difference below nought is nought.
 // What a caller should know: an instant or a span may be any number; bounds on them are the table's business.
