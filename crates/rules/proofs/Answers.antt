@@ -1,12 +1,8 @@
--- What a call answers, and what it has passed where it is not refused.
-use Rattle.std.proofs.Common.{◌≡◌, ◌≢◌, true, ℕ, ◌+◌, ◌≤◌, ◌<◌, length, arith, ne_eqb, tests}
-use Rattle.std.proofs.lemmas.Bool.{or_parts, not-false, eqb-false}
+-- What a call answers.
+use Rattle.std.proofs.Common.{◌≡◌, ℕ, arith, ne_eqb}
 use Rattle.std.proofs.lemmas.Bool.Decides.{nat_tests}
-use Rattle.rules.specs.Numbers.{place_count, last_tick, longest_span, last_level, most_slots}
-use Rattle.rules.specs.Table.{Table, at}
-use Rattle.rules.specs.Fit.{fits_by_sums}
-use Rattle.rules.specs.Sound.{sound}
-use Rattle.rules.specs.Call.{Call, Open, Close, Arrive, Depart, Elect, Slot, Advance, arrived, judge, checks, refusal, done, refused, called}
+use Rattle.rules.specs.Table.{Table}
+use Rattle.rules.specs.Call.{Call, refusal, done, refused, called}
 
 pub called_done : (t : Table) (c : Call) → refusal t c ≡ 0 → called t c ≡ done t c
 unfolding called
@@ -19,19 +15,3 @@ called_refused t c k e n = rw (← e, ne_eqb k 0 n)
 pub answer_is : (t : Table) (c : Call) → (called t c).answer ≡ refusal t c
 unfolding called
 answer_is t c = grind (arith, nat_tests)
-
--- what a call that is not refused has passed, in numbers
-abbrev pub Clear : Table → Call → Type 0
-Clear t (Open p level cap gap) = (p < place_count) × (level ≤ last_level) × (1 ≤ cap) × (cap ≤ gap) × (gap ≤ longest_span)
-Clear t (Close p) = (p < place_count) × ((at t p).live ≢ 1) × ((at t p).next.0 ≤ t.now.0)
-Clear t (Arrive p b d) =
-    (p < place_count) × ((at t p).opened ≡ 1) × ((1 ≤ b) × (b ≤ (at t p).cap.0)) × ((1 ≤ d) × (d ≤ longest_span) × (t.now.0 + d ≤ last_tick))
-    × (t.policy ≡ 1 → fits_by_sums (arrived t p b d) ≡ true)
-Clear t (Depart p) = (p < place_count) × ((at t p).live ≡ 1)
-Clear t Elect = Unit {0}
-Clear t Slot = t.now.0 < last_tick
-Clear t (Advance n bytes start) = (n ≤ most_slots) × (t.now.0 + n ≤ last_tick) × (start + n ≤ length bytes)
-
-pub passed : (t : Table) (c : Call) → refusal t c ≡ 0 → (sound t ≡ true) × Clear t c
-unfolding refusal checks judge
-passed t c e = grind (arith, tests, or_parts, not-false, eqb-false)

@@ -11,7 +11,8 @@ use Rattle.rules.specs.History.{Arrived, Happening, Did, Gave, history, table_af
 use Rattle.rules.specs.Promises.{SomePlanServes, Refusals, FirstIs}
 use Rattle.rules.specs.Demands.{SetUp, HistoriesAreSound, figures_of, TheTableHoldsWhatTheHistorySays, rank_in, EverySlotGoesWhereTheRuleSendsIt, NoJobRunsPastItsSlots, NoSlotWithoutAJob, NoReserveStartsTwiceWithinItsGap, SlotsAddUpToTheClock, TotalsAreCounted, ATakenJobIsServed, ATakenJobEndsSpent, NoJobEndsLateByDeadline, SomePlanServesAll, TurnedAwayExactlyWhenNoPlanServesAll, HowAJobEnds, AnUnoutrankedJobIsServed}
 use Rattle.rules.proofs.Sums.{sum_ext}
-use Rattle.rules.proofs.Answers.{answer_is, passed}
+use Rattle.rules.proofs.Answers.{answer_is}
+use Rattle.rules.proofs.Passed.{passed}
 use Rattle.rules.proofs.Kept.{elected_ok, live_bounds}
 use Rattle.rules.proofs.Promises.{each_refusal_exactly_when_the_paper_says, fresh_at}
 use Rattle.rules.proofs.Refused.{sound_not_one}

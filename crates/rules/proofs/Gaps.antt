@@ -7,6 +7,7 @@ use Rattle.rules.specs.Sound.{Sound}
 use Rattle.rules.specs.Slot.{served, unless_late, slot}
 use Rattle.rules.specs.Call.{judge, checks, refusal, effect}
 use Rattle.rules.specs.History.{Deed, Arrived, Happening, Did, Gave}
+use Rattle.rules.proofs.Passed.{passed}
 use Rattle.rules.proofs.Stores.{gave, slot_at, slot_keeps}
 use Rattle.rules.proofs.Kept.{slot_sound}
 use Rattle.rules.proofs.Histories.{call_of, AllAllowed, after, deed_sound}
@@ -15,9 +16,9 @@ use Rattle.rules.proofs.Histories.{call_of, AllAllowed, after, deed_sound}
 abbrev pub Waits : Table → ℕ → ℕ → Type 0
 Waits t p e = (e ≤ t.now.0) ⊎ (((at t p).next.0 ≡ e) × ((at t p).opened ≡ 1))
 
-deed_waits : (t : Table) (p e : ℕ) (x : Deed) → p < length t.places → refusal t (call_of x) ≡ 0 → Waits t p e → Waits (effect t (call_of x)) p e
-unfolding call_of refusal checks judge effect
-deed_waits t p e x h a w = grind (arith, nat_tests, get_or-set_same, get_or-set_other)
+deed_waits : (t : Table) (p e : ℕ) (x : Deed) → Sound t → refusal t (call_of x) ≡ 0 → Waits t p e → Waits (effect t (call_of x)) p e
+unfolding call_of effect
+deed_waits t p e x s a w = grind (arith, nat_tests, get_or-set_same, get_or-set_other, s.size, passed t (call_of x) a)
 
 slot_waits : (t : Table) (p e : ℕ) → p < length t.places → Waits t p e → Waits (slot t) p e
 unfolding unless_late gave served
@@ -26,7 +27,7 @@ slot_waits t p e h w = grind (arith, nat_tests, slot_at t p h, (slot_keeps t).cl
 pub row_waits : (hs : List Happening) (t : Table) (p e : ℕ) → Sound t → p < place_count → AllAllowed t hs → Waits t p e → Waits (after t hs) p e
 row_waits [] t p e s l a w = w
 row_waits (Did x ∷ hs) t p e s l a w =
-    row_waits hs (effect t (call_of x)) p e (deed_sound t x s a.0) l a.1 (deed_waits t p e x (omega (arith, s.size)) a.0 w)
+    row_waits hs (effect t (call_of x)) p e (deed_sound t x s a.0) l a.1 (deed_waits t p e x s a.0 w)
 row_waits (Gave n ∷ hs) t p e s l a w = row_waits hs (slot t) p e (slot_sound t a.0.0 s) l a.1 (slot_waits t p e (omega (arith, s.size)) w)
 
 -- an arrival waits for it

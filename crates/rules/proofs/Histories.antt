@@ -8,7 +8,8 @@ use Rattle.rules.specs.Sound.{Sound}
 use Rattle.rules.specs.Slot.{slot, slots, named}
 use Rattle.rules.specs.Call.{Call, Open, Close, Arrive, Depart, Elect, Slot, Advance, refusal, effect, named_by, written, done, refused, called}
 use Rattle.rules.specs.History.{Deed, Opened, Closed, Arrived, Departed, Happening, Did, Gave, did, happened, history_from, table_from, ticks}
-use Rattle.rules.proofs.Answers.{called_done, called_refused, passed}
+use Rattle.rules.proofs.Answers.{called_done, called_refused}
+use Rattle.rules.proofs.Passed.{passed}
 use Rattle.rules.proofs.Stores.{slot_keeps}
 use Rattle.rules.proofs.Kept.{slot_sound}
 use Rattle.rules.proofs.KeptByCalls.{call_sound}

@@ -41,9 +41,9 @@ off_slot : (t : Table) (p : ℕ) → Sound t → p < place_count → (at t p).li
 unfolding unless_late gave served number
 off_slot t p s l z = grind (arith, nat_tests, slot_at t p (omega (arith, s.size)), elected_live t p)
 
-off_deed : (t : Table) (p : ℕ) (x : Deed) → p < length t.places → (at t p).live ≡ 0 → refusal t (call_of x) ≡ 0 → arrives_at p x ≡ false → (at (effect t (call_of x)) p).live ≡ 0
+off_deed : (t : Table) (p : ℕ) (x : Deed) → Sound t → (at t p).live ≡ 0 → refusal t (call_of x) ≡ 0 → arrives_at p x ≡ false → (at (effect t (call_of x)) p).live ≡ 0
 unfolding call_of refusal checks judge effect arrives_at
-off_deed t p x h z a n = grind (arith, nat_tests, get_or-set_same, get_or-set_other)
+off_deed t p x s z a n = grind (arith, nat_tests, get_or-set_same, get_or-set_other, s.size)
 
 -- no slot names p before an arrival there
 pub off_row : (hs : List Happening) (t : Table) (p : ℕ) → Sound t → p < place_count → AllAllowed t hs → (at t p).live ≡ 0 → job_slots p hs ≡ 0
@@ -51,7 +51,7 @@ unfolding job_slots
 off_row [] t p s l a z = refl
 off_row (Did x ∷ hs) t p s l a z =
     cond_both (arrives_at p x) 0 (job_slots p hs) (λ k. k ≡ 0) (λ e. refl)
-    (λ e. off_row hs (effect t (call_of x)) p (deed_sound t x s a.0) l a.1 (off_deed t p x (omega (arith, s.size)) z a.0 e))
+    (λ e. off_row hs (effect t (call_of x)) p (deed_sound t x s a.0) l a.1 (off_deed t p x s z a.0 e))
 off_row (Gave n ∷ hs) t p s l a z =
     let o = off_slot t p s l z in
     rw (ap (λ k. eqb k p) a.0.1 ∙ o.0) (omega (arith, off_row hs (slot t) p (slot_sound t a.0.0 s) l a.1 (rw o.1 z)))

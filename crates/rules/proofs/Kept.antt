@@ -36,7 +36,7 @@ unfolding unless_late gave served
 place_kept policy now x z w q known first s v e = grind (arith, nat_tests, closed, resting, busy)
 
 -- what a slot adds to a total
-total_at : (t : Table) (q : ℕ) → q < length t.places → (at (slot t) q).total.0 ≡ (at t q).total.0 + is_for (elected t) q
+pub total_at : (t : Table) (q : ℕ) → q < length t.places → (at (slot t) q).total.0 ≡ (at t q).total.0 + is_for (elected t) q
 unfolding unless_late gave served is_for
 total_at t q h = grind (arith, nat_tests, slot_at t q h)
 
@@ -61,7 +61,7 @@ elected_earliest : (t : Table) → t.policy ≡ 1 → elected t ≡ earliest (jo
 unfolding elected earliest
 elected_earliest t e = rw e
 
-slot_jobs : (t : Table) → length t.places ≡ place_count → t.policy ≡ 1 → (q : ℕ) → q < place_count → jobs_of (slot t) q ≡ spend (earliest (jobs_of t) place_count) (jobs_of t) q
+pub slot_jobs : (t : Table) → length t.places ≡ place_count → t.policy ≡ 1 → (q : ℕ) → q < place_count → jobs_of (slot t) q ≡ spend (earliest (jobs_of t) place_count) (jobs_of t) q
 unfolding unless_late gave served spend less
 slot_jobs t h e q l = rw (← elected_earliest t e) (grind (arith, nat_tests, slot_at t q (omega arith)))
 
@@ -107,3 +107,8 @@ pub slots_clock : (n : ℕ) (t : Table) → (slots n t).now.0 ≡ t.now.0 + n
 unfolding slots
 slots_clock zero t = omega arith
 slots_clock (suc n) t = omega (arith, slots_clock n (slot t), (slot_keeps t).clock)
+
+pub slots_policy : (n : ℕ) (t : Table) → (slots n t).policy ≡ t.policy
+unfolding slots
+slots_policy zero t = refl
+slots_policy (suc n) t = slots_policy n (slot t) ∙ (slot_keeps t).policy

@@ -12,7 +12,8 @@ use Rattle.rules.proofs.Sums.{sum_mono, sum_ext}
 use Rattle.rules.proofs.Fits.{SumsAlways, due_gone}
 use Rattle.rules.proofs.Spending.{sums_always}
 use Rattle.rules.proofs.Facts.{sums_iff}
-use Rattle.rules.proofs.Answers.{Clear, passed, called_done, called_refused}
+use Rattle.rules.proofs.Answers.{called_done, called_refused}
+use Rattle.rules.proofs.Passed.{Clear, passed}
 use Rattle.rules.proofs.Stores.{Put, there, other, put_view}
 use Rattle.rules.proofs.Kept.{live_bounds, slot_sound, slots_sound}
 
@@ -52,10 +53,10 @@ effect_sound t (Open p level cap gap) s ok = put_off t p (opened level cap gap (
 effect_sound t (Close p) s ok = put_off t p (closed_place (at t p).total) ok.0 refl (closed (omega arith)) refl s
 effect_sound t (Arrive p b d) s ok =
     put_sound t p (with_job t.now.0 (at t p) b d) ok.0
-    (job_sound t.now.0 b d (at t p) ok.1 ok.2.0 ok.2.1 ok.3.0 ok.3.1 ok.3.2 (s.places p ok.0))
-    refl (λ e. (sums_iff (jobs_of (arrived t p b d)) place_count t.now.0).0 (unfold fits_by_sums in ok.4 e)) s
+    (job_sound t.now.0 b d (at t p) ok.1 ok.2.0 ok.2.1 ok.3.0 ok.3.1 ok.6 (s.places p ok.0))
+    refl (λ e. (sums_iff (jobs_of (arrived t p b d)) place_count t.now.0).0 (unfold fits_by_sums in ok.7 e)) s
 effect_sound t (Depart p) s ok =
-    let o = live_bounds (s.places p ok.0) ok.1 in
+    let o = live_bounds (s.places p ok.0) ok.2 in
     put_off t p (ended 1 (at t p)) ok.0 refl (resting (omega arith) (omega arith)) refl s
 effect_sound t Elect s ok = s
 effect_sound t Slot s ok = slot_sound t ok s

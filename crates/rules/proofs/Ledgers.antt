@@ -1,5 +1,5 @@
 -- The ledger of a history is what the table holds: each happening changes both alike.
-use Rattle.std.proofs.Common.{get_or-set_same, get_or-set_other, ◌≡◌, refl, sym, ap, ap₂, ◌∙◌, List, [], ◌∷◌, ℕ, ◌+◌, ◌<◌, arith, eqb, length}
+use Rattle.std.proofs.Common.{get_or-set_same, get_or-set_other, ◌≡◌, ◌≢◌, refl, sym, ap, ap₂, ◌∙◌, List, [], ◌∷◌, ℕ, ◌+◌, ◌<◌, arith, eqb, length}
 use Rattle.std.proofs.lemmas.Bool.Decides.{nat_tests}
 use Rattle.rules.specs.declared.Place.{Place}
 use Rattle.rules.specs.Numbers.{place_count}
@@ -7,9 +7,10 @@ use Rattle.rules.specs.Table.{Table, is_open, is_live, at}
 use Rattle.rules.specs.Election.{number, elected}
 use Rattle.rules.specs.Sound.{Sound}
 use Rattle.rules.specs.Slot.{served, unless_late}
-use Rattle.rules.specs.Call.{effect}
-use Rattle.rules.specs.History.{Deed, Happening, Did, Gave, Ledger, place_of, entered, ticked, unless_overdue, noted, ledger_from}
+use Rattle.rules.specs.Call.{Open, Close, Arrive, Depart, refusal, effect}
+use Rattle.rules.specs.History.{Deed, Opened, Closed, Arrived, Departed, Happening, Did, Gave, Ledger, place_of, entered, ticked, unless_overdue, noted, ledger_from}
 use Rattle.rules.specs.Demands.{figures_of}
+use Rattle.rules.proofs.Passed.{passed}
 use Rattle.rules.proofs.Stores.{gave, slot_at, slot_keeps}
 use Rattle.rules.proofs.Histories.{call_of, Allowed, next, AllAllowed, after, next_sound, next_policy}
 
@@ -17,10 +18,23 @@ use Rattle.rules.proofs.Histories.{call_of, Allowed, next, AllAllowed, after, ne
 abbrev pub shown : ℕ → Place → Ledger
 shown now x = record { clock = now; is_open = is_open x; level = x.level; cap = x.cap.0; gap = x.gap.0; live = is_live x; asked = x.budget.0; owed = x.remaining.0; deadline = x.deadline.0; ending = x.ending }
 
--- an accepted call changes the ledger as it changes the table
+-- an accepted call names a place of the table
+pub deed_inside : (t : Table) (x : Deed) → refusal t (call_of x) ≡ 0 → place_of x < place_count
+unfolding call_of place_of
+deed_inside t (Opened p level cap gap) e = (passed t (Open p level cap gap) e).1.0
+deed_inside t (Closed p) e = (passed t (Close p) e).1.0
+deed_inside t (Arrived p b d) e = (passed t (Arrive p b d) e).1.0
+deed_inside t (Departed p) e = (passed t (Depart p) e).1.0
+
+-- it changes the ledger as it changes the table
 deed_shown : (t : Table) (p : ℕ) (x : Deed) → p < length t.places → noted t.policy p (figures_of t p) (Did x) ≡ figures_of (effect t (call_of x)) p
 unfolding noted entered effect call_of place_of
 deed_shown t p x h = grind (arith, nat_tests, get_or-set_same, get_or-set_other)
+
+-- and leaves every other place as it was
+pub deed_other : (t : Table) (x : Deed) (p : ℕ) → place_of x ≢ p → at (effect t (call_of x)) p ≡ at t p
+unfolding effect call_of place_of
+deed_other t x p n = grind (arith, get_or-set_other)
 
 -- steps 2 and 3 of a slot, and step 4
 gave_shown : (t : Table) (p : ℕ) → p < place_count → shown (t.now.0 + 1) (gave (elected t) p (at t p)) ≡ ticked (figures_of t p) (eqb (number (elected t)) p)
@@ -32,7 +46,7 @@ unfolding unless_overdue unless_late
 overdue_shown policy now x = grind (arith, nat_tests)
 
 -- a happening changes the ledger as it changes the table
-noted_shown : (t : Table) (p : ℕ) (h : Happening) → Sound t → p < place_count → Allowed t h → noted t.policy p (figures_of t p) h ≡ figures_of (next t h) p
+pub noted_shown : (t : Table) (p : ℕ) (h : Happening) → Sound t → p < place_count → Allowed t h → noted t.policy p (figures_of t p) h ≡ figures_of (next t h) p
 noted_shown t p (Did x) s l a = deed_shown t p x (omega (arith, s.size))
 noted_shown t p (Gave n) s l a = unfold noted in
     ap (λ k. unless_overdue t.policy (ticked (figures_of t p) (eqb k p))) a.1

@@ -2,6 +2,7 @@ pub mod Cases
 pub mod Sums
 pub mod Elections
 pub mod Answers
+pub mod Passed
 pub mod Facts
 pub mod Fits
 pub mod Spending

@@ -14,7 +14,8 @@ use Rattle.rules.proofs.Sums.{sum_zero}
 use Rattle.rules.proofs.Elections.{elected_unique}
 use Rattle.rules.proofs.Spending.{fits_iff}
 use Rattle.rules.proofs.Facts.{sound_holds, holds_sound, sums_iff}
-use Rattle.rules.proofs.Answers.{called_done, called_refused, answer_is, passed}
+use Rattle.rules.proofs.Answers.{called_done, called_refused, answer_is}
+use Rattle.rules.proofs.Passed.{passed}
 use Rattle.rules.proofs.Kept.{elected_ok, some_left, slots_sound, slots_clock}
 use Rattle.rules.proofs.KeptByCalls.{call_sound}
 use Rattle.rules.proofs.Refused.{rows, first_row}

@@ -3,9 +3,10 @@ use Rattle.std.proofs.Common.{◌≡◌, refl, ap, ◌∙◌, ◌≢◌, cond, L
 use Rattle.std.proofs.lemmas.List.{length-map, get_or-map}
 use Rattle.std.proofs.lemmas.Bool.Decides.{nat_tests}
 use Rattle.rules.specs.declared.Place.{Place}
+use Rattle.rules.specs.Numbers.{spent, late}
 use Rattle.rules.specs.Table.{Table, zero_place, at, put}
 use Rattle.rules.specs.Election.{Who, nobody, place, elected}
-use Rattle.rules.specs.Slot.{served, unless_late, serve, idle_more, slot}
+use Rattle.rules.specs.Slot.{given, ended, served, unless_late, serve, idle_more, slot}
 
 -- what a store at p makes of place q
 pub data Put (t : Table) (p : ℕ) (x : Place) (q : ℕ) : Type 0 where
@@ -50,3 +51,15 @@ slot_keeps t = record {
   idle = refl;
   size = length-map (serve (elected t) t.places) (unless_late t.policy (t.now.0 + 1)) ∙ serve_size (elected t) t.places;
 }
+
+-- a slot leaves every figure of a place that neither a slot given nor a job's end changes
+pub slot_leaves : (f : Place → ℕ) → ((x : Place) → f (given x) ≡ f x) → ((e : ℕ) (x : Place) → f (ended e x) ≡ f x) → (t : Table) (p : ℕ) → p < length t.places → f (at (slot t) p) ≡ f (at t p)
+unfolding unless_late gave served
+slot_leaves f g e t p h = ap f (slot_at t p h) ∙ late_leaves (gave (elected t) p (at t p)) ∙ gave_leaves (elected t) (at t p)
+  where
+    gave_leaves : (w : Who) (x : Place) → f (gave w p x) ≡ f x
+    gave_leaves nobody x = refl
+    gave_leaves (place q) x = grind (arith, g x, e spent (given x))
+
+    late_leaves : (x : Place) → f (unless_late t.policy (t.now.0 + 1) x) ≡ f x
+    late_leaves x = grind (arith, e late x)
