@@ -1,2 +1,3 @@
+pub mod Marks
 pub mod Named
 pub mod Pinned

@@ -4,12 +4,12 @@
 // MARKS + 3 to MARKS + 5, and the fields of place i in their order MARKS + 16 (i + 1) + 1 to MARKS + 16 (i + 1) + 11. What is written and read
 // is the struct of numbers that C declares, and no answer of the crate table; whether all is as written C is told as a number.
 
-ghost use Rattle.std.specs.Prelude.{◌≡◌, ◌<◌};
+ghost use Rattle.std.specs.Prelude.{◌≡◌, ◌<◌, Decides};
 ghost use Rattle.rules.specs.Numbers.{place_count};
-ghost use Rattle.board.specs.Layout.{marked_place, marked_table, marked_turn, Version, Marked, MarkedNumber};
+ghost use Rattle.board.specs.Layout.{marked_place, marked_places, marked_table, marked_turn, Version, Marked, MarkedNumber};
 
 use crate::crossing::Turn;
-use rules::Place;
+use rules::{PLACES, Place};
 use std::array;
 use table::Table;
 use time::{Instant, Span};
@@ -65,6 +65,18 @@ fn marked_turn() -> Turn
     }
 }
 
+// Whether every field of every place holds its mark.
+fn are_marked(places: &[Place; PLACES]) -> bool
+    ensures { Decides result (places.now ≡ marked_places place_count) }
+{
+    for (i, p) in places.iter().enumerate() {
+        if *p != marked_place(i as u64) {
+            return false;
+        }
+    }
+    true
+}
+
 // The version of the layout that this library has.
 #[unsafe(no_mangle)]
 pub extern "C" fn trinvoksha_layout_version() -> u64
@@ -86,5 +98,12 @@ pub extern "C" fn trinvoksha_layout_write() -> Turn
 pub extern "C" fn trinvoksha_layout_read(turn: Turn) -> u64
     ensures { MarkedNumber turn result }
 {
-    (turn == marked_turn()) as u64
+    let marked = marked_turn();
+    let same = turn.number == marked.number
+        && turn.place == marked.place
+        && turn.table.policy == marked.table.policy
+        && turn.table.now == marked.table.now
+        && turn.table.idle == marked.table.idle
+        && are_marked(&turn.table.places);
+    same as u64
 }
