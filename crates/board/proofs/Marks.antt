@@ -4,7 +4,7 @@ use Rattle.std.proofs.lemmas.Grind.{common_steps}
 use Rattle.rules.specs.Table.{zero_place}
 use Rattle.board.specs.Layout.{marked_place, marked_places}
 
-marks_length : (m : ℕ) → length (marked_places m) ≡ m
+pub marks_length : (m : ℕ) → length (marked_places m) ≡ m
 unfolding marked_places
 marks_length zero = refl
 marks_length (suc m) = grind (arith, common_steps, marks_length m)

@@ -1,10 +1,10 @@
 -- The ledger of a history is what the table holds: each happening changes both alike.
-use Rattle.std.proofs.Common.{get_or-set_same, get_or-set_other, ◌≡◌, ◌≢◌, refl, sym, ap, ap₂, ◌∙◌, List, [], ◌∷◌, ℕ, ◌+◌, ◌<◌, arith, eqb, length}
+use Rattle.std.proofs.Common.{get_or-set_same, get_or-set_other, ◌≡◌, ◌≢◌, refl, sym, ap, ap₂, ◌∙◌, List, [], ◌∷◌, ℕ, ◌+◌, ◌<◌, true, false, arith, eqb, length}
 use Rattle.std.proofs.lemmas.Bool.Decides.{nat_tests}
 use Rattle.rules.specs.declared.Place.{Place}
 use Rattle.rules.specs.Numbers.{place_count}
 use Rattle.rules.specs.Table.{Table, is_open, is_live, at}
-use Rattle.rules.specs.Election.{number, elected}
+use Rattle.rules.specs.Election.{Who, place, number, elected}
 use Rattle.rules.specs.Sound.{Sound}
 use Rattle.rules.specs.Slot.{served, unless_late}
 use Rattle.rules.specs.Call.{Open, Close, Arrive, Depart, refusal, effect}
@@ -36,6 +36,15 @@ pub deed_other : (t : Table) (x : Deed) (p : ℕ) → place_of x ≢ p → at (e
 unfolding effect call_of place_of
 deed_other t x p n = grind (arith, get_or-set_other)
 
+-- the slot names p exactly where p is elected
+pub names_it : (w : Who) (p : ℕ) → w ≡ place p → eqb (number w) p ≡ true
+unfolding number
+names_it w p e = grind (arith, nat_tests)
+
+pub names_other : (w : Who) (p : ℕ) → p < place_count → w ≢ place p → eqb (number w) p ≡ false
+unfolding number
+names_other w p l n = grind (arith, nat_tests)
+
 -- steps 2 and 3 of a slot, and step 4
 gave_shown : (t : Table) (p : ℕ) → p < place_count → shown (t.now.0 + 1) (gave (elected t) p (at t p)) ≡ ticked (figures_of t p) (eqb (number (elected t)) p)
 unfolding gave ticked number served
@@ -63,6 +72,10 @@ ledger_shown (h ∷ hs) t p s l a =
     ∙ ledger_shown hs (next t h) p (next_sound t h s a.0) l a.1
 
 -- under policy 1 no ledger says late
+deed_in_time : (l : Ledger) (x : Deed) → ¬ ((entered l x).ending ≡ 3)
+unfolding entered
+deed_in_time l x e = grind (arith, nat_tests)
+
 noted_in_time : (p : ℕ) (l : Ledger) (h : Happening) → ¬ (l.ending ≡ 3) → ¬ ((noted 1 p l h).ending ≡ 3)
 unfolding noted unless_overdue ticked entered
 noted_in_time p l h n e = grind (arith, nat_tests)

@@ -1,6 +1,6 @@
 -- Each refusal is given exactly when the paper says: row by row the test of a check decides the paper's words. For row 9 the rows
 -- before it give a sound table with the new job in it, where the test by sums is equal to the sentence on plans.
-use Rattle.std.proofs.Common.{Decides, ◌≡◌, refl, sym, inl, inr, ⊎_elim, ◌↔◌, Bool, true, false, cond, not, List, [], ◌∷◌, ℕ, ◌+◌, ◌≤◌, ◌<◌, arith, length-drop, leb-true, le-leb, leb-false, eqb-true, eq-eqb}
+use Rattle.std.proofs.Common.{Decides, ◌≡◌, refl, sym, inl, inr, ⊎_elim, ◌↔◌, Bool, true, false, cond, not, ◌&&◌, eqb, List, [], ◌∷◌, ◌++◌, ℕ, ◌+◌, ◌≤◌, ◌<◌, arith, length-drop, leb-true, le-leb, leb-false, eqb-true, eq-eqb}
 use Rattle.std.proofs.lemmas.Bool.{eqb-false, not-false}
 use Rattle.std.proofs.lemmas.Bool.Decides.{nat_tests, not_from_Decides, Decides-not, Decides-and, Decides-eqb, Decides-ltb}
 use Rattle.rules.specs.Numbers.{place_count, last_tick, most_slots}
@@ -80,6 +80,20 @@ module _ (t : Table) where
   rows Slot = row unsound λ e1. row (Decides-ltb last_tick (t.now.0 + 1)) λ e8. end
   rows (Advance n bytes start) =
       row unsound λ e1. row (Decides-ltb most_slots n) λ e5. row (Decides-ltb last_tick (t.now.0 + n)) λ e8. row (grind (arith, nat_tests, length-drop {A = ℕ})) λ e11. end
+
+-- a number that a list of refusals lacks is not given by it
+abbrev pub lacks : ℕ → List (ℕ × Type 0) → Bool
+lacks k [] = true
+lacks k (r ∷ rs) = not (eqb r.0 k) && lacks k rs
+
+not_first : (k : ℕ) (rs : List (ℕ × Type 0)) → lacks k rs ≡ true → ¬ (k ≡ 0) → ¬ FirstIs k rs
+not_first k [] a z f = z f
+not_first k (r ∷ rs) a z f = grind (arith, nat_tests, not_first k rs)
+
+-- what is not given by the rows before is given by the last one
+pub last_row : (k : ℕ) (rs : List (ℕ × Type 0)) (last : ℕ × Type 0) → lacks k rs ≡ true → FirstIs k (rs ++ (last ∷ [])) → FirstIs k (last ∷ [])
+last_row k [] last a f = f
+last_row k (r ∷ rs) last a f = grind (arith, nat_tests, last_row k rs last)
 
 -- refusal 1 is never given to a sound table
 pub sound_not_one : (t : Table) (c : Call) → Sound t → ¬ (refusal t c ≡ 1)

@@ -1,6 +1,6 @@
 // Advance: n slots in one call, written into a lent record from a given start.
 
-ghost use Rattle.std.specs.Prelude.{◌≡◌, true, ◌+◌, ◌<◌, ◌≤◌, length};
+ghost use Rattle.std.specs.Prelude.{◌≡◌, true, ◌++◌, ◌+◌, ◌<◌, ◌≤◌, length, drop};
 ghost use Rattle.rules.specs.Numbers.{last_tick};
 ghost use Rattle.rules.specs.Sound.{sound};
 ghost use Rattle.rules.specs.Slot.{slots as slots_of, named};
@@ -24,6 +24,15 @@ impl Table {
         }
     }
 
+    // A slot for each of the first bytes, as many as are counted, named there.
+    fn run_first(&mut self, count: usize, bytes: &mut [u8])
+        requires { (sound (ruled self.old) ≡ true) × (self.old.now.0 + count ≤ last_tick) × (count ≤ length bytes.old) }
+        ensures table { self.new ≡ dressed (slots_of count (ruled self.old)) }
+        ensures named { bytes.new ≡ named count (ruled self.old) ++ drop count bytes.old }
+    {
+        self.run(&mut bytes[..count]);
+    }
+
     // n slots, each written into the record from the start on. The start is a parameter beside the record, and no slice stands for both, since a
     // start beyond the record's end is refused by its number.
     #[tactic(auto, unfolding(rules::specs::Call::called, rules::specs::Call::refusal, rules::specs::Call::checks, rules::specs::Call::judge, rules::specs::Call::effect, rules::specs::Call::lent))]
@@ -40,7 +49,7 @@ impl Table {
         if slots.len() < start || slots.len() - start < count {
             return Err(Refusal::NoRoom);
         }
-        self.run(&mut slots[start..start + count]);
+        self.run_first(count, &mut slots[start..]);
         Ok(())
     }
 
